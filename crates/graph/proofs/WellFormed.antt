@@ -1,0 +1,74 @@
+-- The test of a graph says just what its record of facts says.
+-- Assumes nothing.
+use mathlib.Core.Path.{_≡_, refl, sym, ap, _∙_}
+use mathlib.Core.Bool.{Bool, true, _&&_}
+use mathlib.Core.List.{List, [], _∷_}
+use mathlib.Core.Logic.{_↔_}
+use Prim.Native.Nat.{ℕ, suc, _+_, _-_, _*_, _%_, _≤_, _<_}
+use native.Mathlib.Omega.{arith}
+use borrow.Author.Tests.{leb-true, ltb-true, eqb-true, le-leb, lt-ltb, eq-eqb}
+use lib.Dec.{leb, ltb, eqb}
+use lib.ListN.{length, getD}
+use Rattle.graph.specs.Lists.{every, allBelow, all}
+use Rattle.graph.specs.Graph.{Net, Graph, free, size, last, sinks, first, second, gateOk, sinkOk, rules, wellFormed, IsGate, Lawful, WellFormed}
+use Rattle.graph.proofs.Lists.{and-left, and-right, and-both, every-at, every-of, done, _then_, allBelow-at, allBelow-of, all-at, all-of}
+
+well-is : (g : Graph) → wellFormed g ≡ every (rules g)
+unfolding wellFormed
+well-is g = refl
+
+-- the two facts of a gate
+module _ (net : Net) (v : ℕ) where
+  pub gate-ordered : gateOk net v ≡ true → second net v ≤ first net v
+  unfolding gateOk
+  gate-ordered e = leb-true (second net v) (first net v) (and-left _ (ltb (first net v) (2 * v)) e)
+
+  pub gate-below : gateOk net v ≡ true → first net v < 2 * v
+  unfolding gateOk
+  gate-below e = ltb-true (first net v) (2 * v) (and-right (leb (second net v) (first net v)) _ e)
+
+  pub gate-ok : second net v ≤ first net v → first net v < 2 * v → gateOk net v ≡ true
+  unfolding gateOk
+  gate-ok h l = and-both _ _ (le-leb _ _ h) (lt-ltb _ _ l)
+
+-- gates are tested by their number from 0 on, and spoken of by their variable
+module _ (net : Net) where
+  gates-at : allBelow (λ k. gateOk net (suc (free net + k))) (size net) ≡ true → (v : ℕ) → IsGate net v → gateOk net v ≡ true
+  gates-at e v i =
+      let q : v ≡ suc (free net + (v - suc (free net))) = omega arith in
+      ap (gateOk net) q ∙ allBelow-at (λ k. gateOk net (suc (free net + k))) (size net) e (v - suc (free net)) (omega arith)
+
+  gates-of : ((v : ℕ) → IsGate net v → gateOk net v ≡ true) → allBelow (λ k. gateOk net (suc (free net + k))) (size net) ≡ true
+  gates-of h = allBelow-of (λ k. gateOk net (suc (free net + k))) (size net) (λ k l. h (suc (free net + k)) (record { above = omega arith; within = omega arith }))
+
+pub well-formed : (g : Graph) → wellFormed g ≡ true → WellFormed g
+unfolding rules sinkOk
+well-formed g e =
+    let at = every-at (rules g) (sym (well-is g) ∙ e) in
+    record {
+      lawful = record {
+        even = eqb-true _ _ (at 0);
+        ordered = λ v i. gate-ordered (g .net) v (gates-at (g .net) (at 1) v i);
+        below = λ v i. gate-below (g .net) v (gates-at (g .net) (at 1) v i);
+        sinks-within = λ j h. leb-true _ _ (all-at (sinkOk (g .net)) 0 (sinks g) (at 2) j h);
+      };
+      inputs-few = leb-true _ _ (at 3);
+      outputs-few = leb-true _ _ (at 4);
+      gates-few = leb-true _ _ (at 5);
+    }
+
+pub well-formed-test : (g : Graph) → WellFormed g → wellFormed g ≡ true
+unfolding rules sinkOk
+well-formed-test g w =
+    well-is g
+    ∙ every-of
+    (eq-eqb _ _ (w .lawful .even)
+    then gates-of (g .net) (λ v i. gate-ok (g .net) v (w .lawful .ordered v i) (w .lawful .below v i))
+    then all-of (sinkOk (g .net)) 0 (sinks g) (λ j h. le-leb _ _ (w .lawful .sinks-within j h))
+    then le-leb _ _ (w .inputs-few)
+    then le-leb _ _ (w .outputs-few)
+    then le-leb _ _ (w .gates-few)
+    then done)
+
+pub well-formed-iff : (g : Graph) → (wellFormed g ≡ true) ↔ WellFormed g
+well-formed-iff g = (well-formed g, well-formed-test g)

@@ -1,0 +1,67 @@
+-- Evaluating a graph under an assignment of its inputs.
+-- Assumes nothing.
+use Prim.Native.Nat.{ℕ, _-_}
+use mathlib.Core.Bool.{Bool, true, false, cond, not, _&&_}
+use mathlib.Core.List.{List, [], _∷_, map}
+use mathlib.Core.Option.{Option, none, some}
+use lib.Dec.{leb, eqb}
+use lib.ListN.{length, getD}
+use Rattle.graph.specs.declared.refusal.Refusal.the-variants.{BadGraph, BadAssignment, NoRoom}
+use Rattle.graph.specs.declared.refusal.Evaluated.{Evaluated}
+use Rattle.graph.specs.declared.refusal.Evaluated.the-variants.{Outputs, Refused}
+use Rattle.graph.specs.Lists.{all}
+use Rattle.graph.specs.Lent.{short, written}
+use Rattle.graph.specs.Refuse.{Row, _⇒_, firstRefusal, Outcome, accepted, refused, numberOf}
+use Rattle.graph.specs.Graph.{Net, Graph, free, last, wellFormed}
+use Rattle.graph.specs.Sweep.{bools, litValue, values}
+
+-- an input has the value that the assignment gives it, a gate none of its own
+unfoldable pub assigned : Net → (ℕ → Bool) → ℕ → Option Bool
+assigned net a v = cond (leb v (free net)) (some (a v)) none
+
+-- the values of the variables 0 to n under the assignment a
+unfoldable pub valuesUnder : Net → (ℕ → Bool) → ℕ → List Bool
+unfolding values bools assigned
+valuesUnder net a n = values bools (assigned net a) net n
+
+-- the values of the outputs under the assignment a
+unfoldable pub outputsUnder : Graph → (ℕ → Bool) → List Bool
+unfolding valuesUnder litValue bools
+outputsUnder g a = map (litValue bools (valuesUnder (g .net) a (last (g .net)))) (g .outputs)
+
+-- ---- the call: lent values, one an input, and a lent list for one value an output
+
+-- the assignment of the lent values: the first is input 1's
+unfoldable pub assignmentOf : List ℕ → ℕ → Bool
+assignmentOf vs v = eqb (getD vs (v - 1) 0) 1
+
+-- there are I values, each 0 or 1
+unfoldable pub isAssignment : Net → List ℕ → Bool
+unfolding all
+isAssignment net vs = eqb (length vs) (free net) && all (λ x. leb x 1) vs
+
+unfoldable pub evaluateRefusals : Graph → List ℕ → List ℕ → List Row
+unfolding wellFormed isAssignment short
+evaluateRefusals g vs lent =
+    not (wellFormed g) ⇒ BadGraph
+    ∷ not (isAssignment (g .net) vs) ⇒ BadAssignment
+    ∷ short (length (g .outputs)) lent ⇒ NoRoom
+    ∷ []
+
+unfoldable pub evaluated : Graph → List ℕ → List ℕ → Evaluated
+unfolding evaluateRefusals firstRefusal
+evaluated g vs lent = elim (firstRefusal (evaluateRefusals g vs lent)) [ some r ↦ Refused r | none ↦ Outputs (length (g .outputs)) ]
+
+-- the lent list afterwards
+unfoldable pub evaluatedInto : Graph → List ℕ → List ℕ → List ℕ
+unfolding evaluateRefusals firstRefusal written outputsUnder assignmentOf
+evaluatedInto g vs lent =
+    elim (firstRefusal (evaluateRefusals g vs lent)) [
+      | some r ↦ lent
+      | none ↦ written (map (λ b. cond b 1 0) (outputsUnder g (assignmentOf vs))) lent
+    ]
+
+unfoldable pub evaluatedOutcome : Evaluated → Outcome
+unfolding numberOf
+evaluatedOutcome (Outputs n) = accepted (n ∷ [])
+evaluatedOutcome (Refused r) = refused r

@@ -1,0 +1,91 @@
+-- A lent graph, and when it is well formed.
+-- Assumes nothing.
+use Prim.Native.Nat.{ℕ, zero, suc, _+_, _-_, _*_, _/_, _%_, _≤_, _<_}
+use mathlib.Core.Path.{_≡_}
+use mathlib.Core.Bool.{Bool, _&&_}
+use mathlib.Core.List.{List, [], _∷_}
+use lib.Dec.{leb, ltb, eqb}
+use lib.ListN.{length, getD}
+use Rattle.graph.specs.Lists.{every, allBelow, all}
+
+-- how many inputs there are, and the gates' literals, two a gate
+pub record Net : Type 0 where
+  pub inputs : ℕ
+  pub gates : List ℕ
+
+abbrev pub netOf : ℕ → List ℕ → Net
+netOf i gs = record { inputs = i; gates = gs }
+
+-- a net with its outputs: a lent graph
+pub record Graph : Type 0 where
+  pub net : Net
+  pub outputs : List ℕ
+
+abbrev pub graphOf : ℕ → List ℕ → List ℕ → Graph
+graphOf i gs os = record { net = netOf i gs; outputs = os }
+
+-- variable 0 is the constant false, 1 to `free` have values from outside, those after are gates
+abbrev pub free : Net → ℕ
+free net = net .inputs
+
+-- the number of gates
+abbrev pub size : Net → ℕ
+size net = length (net .gates) / 2
+
+-- the highest variable
+abbrev pub last : Net → ℕ
+last net = free net + size net
+
+-- the literals whose values the graph must keep
+abbrev pub sinks : Graph → List ℕ
+sinks g = g .outputs
+
+-- the two literals of variable v's gate
+unfoldable pub first : Net → ℕ → ℕ
+first net v = getD (net .gates) (2 * (v - suc (free net))) 0
+
+unfoldable pub second : Net → ℕ → ℕ
+second net v = getD (net .gates) (suc (2 * (v - suc (free net)))) 0
+
+-- a gate holds its larger literal first; each is below twice the gate's own variable
+unfoldable pub gateOk : Net → ℕ → Bool
+unfolding first second
+gateOk net v = leb (second net v) (first net v) && ltb (first net v) (2 * v)
+
+-- an output is any literal up to 2(I + A) + 1
+unfoldable pub sinkOk : Net → ℕ → Bool
+sinkOk net l = leb l (2 * last net + 1)
+
+-- even length, the rules of gates and outputs, and the three limits
+unfoldable pub rules : Graph → List Bool
+unfolding allBelow gateOk all sinkOk
+rules g =
+    eqb (length (g .net .gates) % 2) 0
+    ∷ allBelow (λ k. gateOk (g .net) (suc (free (g .net) + k))) (size (g .net))
+    ∷ all (sinkOk (g .net)) (sinks g)
+    ∷ leb (g .net .inputs) 64
+    ∷ leb (length (g .outputs)) 64
+    ∷ leb (size (g .net)) 1024
+    ∷ []
+
+unfoldable pub wellFormed : Graph → Bool
+unfolding every rules
+wellFormed g = every (rules g)
+
+-- v is the variable of a gate
+pub record IsGate (net : Net) (v : ℕ) : Type 0 where
+  pub above : free net < v
+  pub within : v ≤ last net
+
+-- the same as facts; first what holds whatever the size
+pub record Lawful (g : Graph) : Type 0 where
+  pub even : length (g .net .gates) % 2 ≡ 0
+  pub ordered : (v : ℕ) → IsGate (g .net) v → second (g .net) v ≤ first (g .net) v
+  pub below : (v : ℕ) → IsGate (g .net) v → first (g .net) v < 2 * v
+  pub sinks-within : (j : ℕ) → j < length (sinks g) → getD (sinks g) j 0 ≤ 2 * last (g .net) + 1
+
+pub record WellFormed (g : Graph) : Type 0 where
+  pub lawful : Lawful g
+  pub inputs-few : g .net .inputs ≤ 64
+  pub outputs-few : length (g .outputs) ≤ 64
+  pub gates-few : size (g .net) ≤ 1024

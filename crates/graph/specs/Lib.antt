@@ -1,0 +1,9 @@
+pub mod Lists
+pub mod Refuse
+pub mod Literal
+pub mod Graph
+pub mod Lent
+pub mod Sweep
+pub mod Evaluate
+pub mod Use
+pub mod Drop

@@ -1,0 +1,30 @@
+-- Lists and tests that the definitions share.
+-- Assumes nothing.
+use Prim.Native.Nat.{ℕ, zero, suc}
+use mathlib.Core.Bool.{Bool, true, false, _&&_}
+use mathlib.Core.List.{List, [], _∷_, _++_}
+
+-- the pieces f 0, f 1, .. f (n - 1), joined
+unfoldable pub gather : {A : Type 0} → (ℕ → List A) → ℕ → List A
+gather f zero = []
+gather f (suc n) = gather f n ++ f n
+
+-- each test of the list passes
+unfoldable pub every : List Bool → Bool
+every [] = true
+every (b ∷ bs) = b && every bs
+
+-- the test f passes at each number below n
+unfoldable pub allBelow : (ℕ → Bool) → ℕ → Bool
+allBelow f zero = true
+allBelow f (suc n) = f n && allBelow f n
+
+-- the test f passes at each element
+unfoldable pub all : {A : Type 0} → (A → Bool) → List A → Bool
+all f [] = true
+all f (x ∷ xs) = f x && all f xs
+
+-- the elements at which f passes, in their order
+unfoldable pub keep : {A : Type 0} → (A → Bool) → List A → List A
+keep f [] = []
+keep f (x ∷ xs) = elim (f x) [ true ↦ x ∷ keep f xs | false ↦ keep f xs ]

@@ -1,0 +1,70 @@
+-- What comes back: the refusals by name and number, and which one is given.
+-- Assumes nothing.
+use Prim.Native.Nat.{ℕ}
+use mathlib.Core.Bool.{Bool, true, false, cond}
+use mathlib.Core.List.{List, [], _∷_}
+use mathlib.Core.Option.{Option, none, some}
+use Rattle.graph.specs.declared.refusal.Refusal.{Refusal}
+use Rattle.graph.specs.declared.refusal.Refusal.the-variants.{
+  BadHeader,
+  TooLarge,
+  Latches,
+  BadCount,
+  BadLine,
+  BadLiteral,
+  BadGraph,
+  BadAssignment,
+  BadRoot,
+  BadLeaves,
+  NotACut,
+  BadCandidate,
+  NotEqual,
+  NoGain,
+  OrderLost,
+  NoRoom,
+}
+
+-- document 01's numbers
+unfoldable pub numberOf : Refusal → ℕ
+numberOf BadHeader = 1
+numberOf TooLarge = 2
+numberOf Latches = 3
+numberOf BadCount = 4
+numberOf BadLine = 5
+numberOf BadLiteral = 6
+numberOf BadGraph = 7
+numberOf BadAssignment = 8
+numberOf BadRoot = 9
+numberOf BadLeaves = 10
+numberOf NotACut = 11
+numberOf BadCandidate = 12
+numberOf NotEqual = 13
+numberOf NoGain = 14
+numberOf OrderLost = 15
+numberOf NoRoom = 16
+
+-- a row of the table of refusals: this refusal is given when the test holds
+pub record Row : Type 0 where
+  pub holds : Bool
+  pub refusal : Refusal
+
+infix 70 _⇒_
+abbrev pub _⇒_ : Bool → Refusal → Row
+b ⇒ r = record { holds = b; refusal = r }
+
+-- where several rows hold the first is given; none where none holds
+unfoldable pub firstRefusal : List Row → Option Refusal
+firstRefusal [] = none
+firstRefusal (row ∷ rows) = cond (row .holds) (some (row .refusal)) (firstRefusal rows)
+
+-- an answer in document 01's terms: 0 and the values, or a refusal's number and what comes with it
+pub record Outcome : Type 0 where
+  pub number : ℕ
+  pub values : List ℕ
+
+abbrev pub accepted : List ℕ → Outcome
+accepted xs = record { number = 0; values = xs }
+
+-- a refusal returns its number alone
+abbrev pub refused : Refusal → Outcome
+refused r = record { number = numberOf r; values = [] }

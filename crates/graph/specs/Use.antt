@@ -1,0 +1,45 @@
+-- The gates in use, and their number R.
+-- Assumes nothing.
+use Prim.Native.Nat.{ℕ, zero, suc, _+_}
+use mathlib.Core.Bool.{Bool, true, false, cond, _&&_}
+use mathlib.Core.List.{List, [], _∷_}
+use lib.Dec.{ltb, leb}
+use lib.ListN.{getD, set, replicate}
+use Rattle.graph.specs.Literal.{varOf}
+use Rattle.graph.specs.Graph.{Net, Graph, free, size, last, sinks, first, second}
+
+-- the variables of these literals are marked
+unfoldable pub markEach : List ℕ → List Bool → List Bool
+markEach [] ms = ms
+markEach (l ∷ ls) ms = markEach ls (set ms (varOf l) true)
+
+-- the fanins of variable v are marked if v is
+unfoldable pub markFanins : Net → ℕ → List Bool → List Bool
+unfolding markEach first second
+markFanins net v ms = cond (getD ms v false) (markEach (first net v ∷ second net v ∷ []) ms) ms
+
+-- so from the k-th gate down to the first
+unfoldable pub markDown : Net → ℕ → List Bool → List Bool
+unfolding markFanins
+markDown net zero ms = ms
+markDown net (suc k) ms = markDown net k (markFanins net (suc (free net + k)) ms)
+
+-- a gate is in use if some output reaches it through fanins: outputs are marked first, then fanins from the highest gate down
+unfoldable pub marks : Graph → List Bool
+unfolding markEach markDown
+marks g = markDown (g .net) (size (g .net)) (markEach (sinks g) (replicate (suc (last (g .net))) false))
+
+-- variable v is a gate, and in use
+unfoldable pub inUse : Graph → ℕ → Bool
+unfolding marks
+inUse g v = ltb (free (g .net)) v && (leb v (last (g .net)) && getD (marks g) v false)
+
+-- how many of the first k gates are marked
+unfoldable pub countMarks : Net → List Bool → ℕ → ℕ
+countMarks net ms zero = 0
+countMarks net ms (suc k) = countMarks net ms k + cond (getD ms (suc (free net + k)) false) 1 0
+
+-- R, the number of gates in use
+unfoldable pub usedGates : Graph → ℕ
+unfolding marks countMarks
+usedGates g = countMarks (g .net) (marks g) (size (g .net))
