@@ -1,0 +1,5 @@
+pub mod Number
+pub mod Line
+pub mod States
+pub mod Reading
+pub mod Calls

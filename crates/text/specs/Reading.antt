@@ -1,0 +1,118 @@
+-- Reading any bytes whatever: the graph that they state, or the refusal that document 01's order selects.
+-- Assumes nothing.
+use Prim.Native.Nat.{ℕ, suc, _+_, _*_, max, min}
+use mathlib.Core.Bool.{Bool, true, false, cond, not, _&&_, _||_}
+use mathlib.Core.List.{List, [], _∷_, _++_, map, flatMap}
+use mathlib.Core.Option.{Option, none, some}
+use lib.Dec.{leb, ltb, eqb}
+use lib.ListN.{length, getD, take, drop}
+use Rattle.graph.specs.declared.refusal.Refusal.{Refusal}
+use Rattle.graph.specs.declared.refusal.Refusal.the-variants.{BadHeader, TooLarge, Latches, BadCount, BadLine, BadLiteral}
+use Rattle.graph.specs.Lists.{gather}
+use Rattle.graph.specs.Refuse.{Row, _⇒_, firstRefusal}
+use Rattle.graph.specs.Graph.{Graph, graphOf}
+use Rattle.text.specs.Number.{Front, front}
+use Rattle.text.specs.Line.{after, lineOf}
+use Rattle.text.specs.States.{aag, skipped}
+
+-- ---- the first line
+
+-- the counts that a header states: M I L O A
+pub record Header : Type 0 where
+  pub highest : ℕ
+  pub inputs : ℕ
+  pub latches : ℕ
+  pub outputs : ℕ
+  pub gates : ℕ
+
+abbrev pub headerOf : List ℕ → Header
+headerOf ns = record { highest = getD ns 0 0; inputs = getD ns 1 0; latches = getD ns 2 0; outputs = getD ns 3 0; gates = getD ns 4 0 }
+
+-- the five numbers of a well-shaped first line, and the text that follows it
+unfoldable pub headerLine : List ℕ → Option (Front (List ℕ))
+unfolding after lineOf
+headerLine t = elim (after aag t) [ none ↦ none | some t′ ↦ lineOf 5 t′ ]
+
+-- a header or a text over the limits; latches; a count that does not add up
+unfoldable pub headerRefusals : List ℕ → Header → List Row
+headerRefusals t h =
+    (ltb 64 (h .inputs) || ltb 64 (h .outputs) || ltb 1024 (h .gates) || ltb 65535 (length t)) ⇒ TooLarge
+    ∷ not (eqb (h .latches) 0) ⇒ Latches
+    ∷ not (eqb (h .highest) (h .inputs + h .gates)) ⇒ BadCount
+    ∷ []
+
+-- ---- the later lines
+
+-- a line that is needed: how many numbers it has, and the rule that they keep
+pub record Needed : Type 0 where
+  pub numbers : ℕ
+  pub rule : List ℕ → Bool
+
+-- input line k is 2k
+unfoldable pub inputNeeded : ℕ → Needed
+inputNeeded k = record { numbers = 1; rule = λ ns. eqb (getD ns 0 0) (2 * k) }
+
+-- an output is any literal up to 2M + 1
+unfoldable pub outputNeeded : Header → Needed
+outputNeeded h = record { numbers = 1; rule = λ ns. leb (getD ns 0 0) (2 * (h .highest) + 1) }
+
+-- the line of variable v's gate has left side 2v, and both right sides are below it
+unfoldable pub gateNeeded : ℕ → Needed
+gateNeeded v = record { numbers = 3; rule = λ ns. eqb (getD ns 0 0) (2 * v) && (ltb (getD ns 1 0) (2 * v) && ltb (getD ns 2 0) (2 * v)) }
+
+-- the lines after the first, in order
+unfoldable pub linesNeeded : Header → List Needed
+unfolding gather inputNeeded outputNeeded gateNeeded
+linesNeeded h =
+    gather (λ k. inputNeeded (suc k) ∷ []) (h .inputs)
+    ++ gather (λ k. outputNeeded h ∷ []) (h .outputs)
+    ++ gather (λ k. gateNeeded (suc (h .inputs + k)) ∷ []) (h .gates)
+
+-- the numbers of all the lines, or the refusal of the first that is not right
+pub data Lines : Type 0 where
+  wrong : Refusal → Lines
+  right : List (List ℕ) → Lines
+
+unfoldable pub withLine : List ℕ → Lines → Lines
+withLine ns (wrong r) = wrong r
+withLine ns (right nss) = right (ns ∷ nss)
+
+-- a line that is missing or misshapen is a BAD LINE, a well-shaped one that breaks its rule a BAD LITERAL; the earlier line decides,
+-- and the rest counts as the last line
+unfoldable pub readLines : List Needed → List ℕ → Lines
+unfolding lineOf skipped withLine
+readLines [] t = cond (skipped t) (right []) (wrong BadLine)
+readLines (need ∷ needs) t =
+    elim (lineOf (need .numbers) t) [
+      | none ↦ wrong BadLine
+      | some x ↦ elim (need .rule (x .got)) [ true ↦ withLine (x .got) (readLines needs (x .rest)) | false ↦ wrong BadLiteral ]
+    ]
+
+-- ---- the graph
+
+-- a gate's words: the larger right side first
+unfoldable pub gateWords : List ℕ → List ℕ
+gateWords ns = max (getD ns 1 0) (getD ns 2 0) ∷ min (getD ns 1 0) (getD ns 2 0) ∷ []
+
+-- the graph of the lines' numbers
+unfoldable pub graphRead : Header → List (List ℕ) → Graph
+unfolding gateWords flatMap
+graphRead h nss =
+    graphOf (h .inputs) (flatMap gateWords (drop (h .inputs + h .outputs) nss)) (map (λ ns. getD ns 0 0) (take (h .outputs) (drop (h .inputs) nss)))
+
+-- what a text is read as
+pub data Reading : Type 0 where
+  refuses : Refusal → Reading
+  yields : Graph → Reading
+
+unfoldable pub readBody : Header → List ℕ → Reading
+unfolding readLines linesNeeded graphRead
+readBody h t = elim (readLines (linesNeeded h) t) [ wrong r ↦ refuses r | right nss ↦ yields (graphRead h nss) ]
+
+unfoldable pub reading : List ℕ → Reading
+unfolding headerLine headerRefusals firstRefusal readBody
+reading t =
+    elim (headerLine t) [
+      | none ↦ refuses BadHeader
+      | some x ↦ elim (firstRefusal (headerRefusals t (headerOf (x .got)))) [ some r ↦ refuses r | none ↦ readBody (headerOf (x .got)) (x .rest) ]
+    ]
