@@ -1,0 +1,58 @@
+-- Picking leaves and asking for a table as calls: the refusals in order, and the answers.
+-- Assumes nothing.
+use Prim.Native.Nat.{ℕ}
+use mathlib.Core.Bool.{Bool, true, false, not}
+use mathlib.Core.List.{List, [], _∷_, _++_}
+use mathlib.Core.Option.{Option, none, some}
+use Rattle.graph.specs.declared.refusal.Refusal.the-variants.{BadGraph, BadRoot, BadLeaves, NotACut}
+use Rattle.graph.specs.Refuse.{Row, _⇒_, firstRefusal, Outcome, accepted, refused, numberOf}
+use Rattle.graph.specs.Graph.{Graph, wellFormed}
+use Rattle.graph.specs.Use.{inUse}
+use Rattle.window.specs.declared.Leaves.{Leaves}
+use Rattle.window.specs.declared.Verdict.{Verdict}
+use Rattle.window.specs.declared.Picked.{Picked}
+use Rattle.window.specs.declared.RootTable.{RootTable}
+use Rattle.window.specs.Leaves.{leavesOf, wellSet}
+use Rattle.window.specs.Local.{covered}
+use Rattle.window.specs.Table.{table}
+use Rattle.window.specs.LeafRule.{picked}
+
+-- ---- picking leaves for a root
+
+-- a graph and a gate in use
+unfoldable pub rootRefusals : Graph → ℕ → List Row
+unfolding wellFormed inUse
+rootRefusals g root = not (wellFormed g) ⇒ BadGraph ∷ not (inUse g root) ⇒ BadRoot ∷ []
+
+unfoldable pub pickAnswer : Graph → ℕ → Picked
+unfolding rootRefusals firstRefusal picked leavesOf
+pickAnswer g root =
+    elim (firstRefusal (rootRefusals g root)) [
+      | some r ↦ record { verdict = Verdict.Refused r; leaves = leavesOf [] }
+      | none ↦ record { verdict = Verdict.Accepted; leaves = picked (g .net) root }
+    ]
+
+unfoldable pub verdictOutcome : Verdict → Leaves → Outcome
+unfolding numberOf
+verdictOutcome Verdict.Accepted w = accepted (w .count ∷ w .places)
+verdictOutcome (Verdict.Refused r) w = refused r
+
+unfoldable pub pickOutcome : Picked → Outcome
+unfolding verdictOutcome
+pickOutcome p = verdictOutcome (p .verdict) (p .leaves)
+
+-- ---- the table of a root over its leaves
+
+-- leaves besides, and they cut the root: what every call on a window asks for
+unfoldable pub windowRefusals : Graph → ℕ → Leaves → List Row
+unfolding rootRefusals wellSet covered
+windowRefusals g root w = rootRefusals g root ++ (not (wellSet root w) ⇒ BadLeaves ∷ not (covered (g .net) w root) ⇒ NotACut ∷ [])
+
+unfoldable pub tableAnswer : Graph → ℕ → Leaves → RootTable
+unfolding windowRefusals firstRefusal table
+tableAnswer g root w = elim (firstRefusal (windowRefusals g root w)) [ some r ↦ RootTable.Refused r | none ↦ RootTable.Table (table (g .net) w root) ]
+
+unfoldable pub tableOutcome : RootTable → Outcome
+unfolding numberOf
+tableOutcome (RootTable.Table t) = accepted (t ∷ [])
+tableOutcome (RootTable.Refused r) = refused r

@@ -1,0 +1,52 @@
+-- Leaf sets, and when one is well set down under a root.
+-- Assumes nothing.
+use Prim.Native.Nat.{ℕ, zero, suc, _-_, _≤_, _<_}
+use mathlib.Core.Path.{_≡_}
+use mathlib.Core.Bool.{Bool, true, false, cond, _&&_}
+use mathlib.Core.List.{List, [], _∷_, _++_}
+use mathlib.Core.Option.{Option, none, some}
+use lib.Dec.{leb, ltb, eqb}
+use lib.ListN.{length, take, drop, replicate}
+use Rattle.graph.specs.Lists.{every, all}
+use Rattle.window.specs.declared.Leaves.{Leaves}
+
+-- a leaf set has six places
+abbrev pub leafLimit : ℕ
+leafLimit = 6
+
+-- the leaves themselves
+abbrev pub leafList : Leaves → List ℕ
+leafList w = take (w .count) (w .places)
+
+-- the leaf set that has these leaves: unused places are 0
+unfoldable pub leavesOf : List ℕ → Leaves
+leavesOf xs = record { count = length xs; places = xs ++ replicate (leafLimit - length xs) 0 }
+
+-- each number is above the one before it, and the first above x
+unfoldable pub ascendsFrom : ℕ → List ℕ → Bool
+ascendsFrom x [] = true
+ascendsFrom x (y ∷ ys) = ltb x y && ascendsFrom y ys
+
+-- at most six; ascending without repeats and none 0; each below the root; unused places 0
+unfoldable pub leafRules : ℕ → Leaves → List Bool
+unfolding ascendsFrom all
+leafRules root w =
+    leb (w .count) leafLimit
+    ∷ ascendsFrom 0 (leafList w)
+    ∷ all (λ v. ltb v root) (leafList w)
+    ∷ all (λ x. eqb x 0) (drop (w .count) (w .places))
+    ∷ []
+
+unfoldable pub wellSet : ℕ → Leaves → Bool
+unfolding every leafRules
+wellSet root w = every (leafRules root w)
+
+-- the place at which v stands in the list, where the list starts at place j
+unfoldable pub placeFrom : ℕ → List ℕ → ℕ → Option ℕ
+placeFrom j [] v = none
+placeFrom j (x ∷ xs) v = cond (eqb x v) (some j) (placeFrom (suc j) xs v)
+
+-- the place of v among the leaves, if it is one
+unfoldable pub leafPlace : Leaves → ℕ → Option ℕ
+unfolding placeFrom
+leafPlace w v = placeFrom 0 (leafList w) v

@@ -1,0 +1,5 @@
+pub mod Leaves
+pub mod Local
+pub mod Table
+pub mod LeafRule
+pub mod Calls
