@@ -1,0 +1,3 @@
+pub mod Proposal
+pub mod Rewire
+pub mod Calls
