@@ -1,0 +1,46 @@
+-- All candidates in order, and the list of the good ones.
+-- Assumes nothing.
+use Prim.Native.Nat.{ℕ, _*_}
+use mathlib.Core.Bool.{Bool, _&&_}
+use mathlib.Core.List.{List, [], _∷_, _++_, map}
+use lib.IntN.{ℤ, natAbs}
+use Rattle.graph.specs.Lists.{gather, keep}
+use Rattle.graph.specs.Graph.{Graph}
+use Rattle.window.specs.declared.Leaves.{Leaves}
+use Rattle.replace.specs.declared.Proposal.{Proposal}
+use Rattle.replace.specs.Proposal.{literal, andGate, allowed}
+use Rattle.replace.specs.Rewire.{gain, atLeastOne}
+use Rattle.replace.specs.Calls.{equalTables}
+use Rattle.listing.specs.declared.Candidate.{Candidate}
+
+-- kind 0 by literal, then kind 1 by (a, b, c), ascending, over every literal below the root's
+unfoldable pub candidates : ℕ → List Proposal
+unfolding gather
+candidates root =
+    gather (λ l. literal l ∷ []) (2 * root)
+    ++ gather (λ a. gather (λ b. gather (λ c. andGate a b c ∷ []) 2) (2 * root)) (2 * root)
+
+-- a replacement that keeps its kind's rule is good if its table equals the root's and its gain is at least 1
+unfoldable pub good : Graph → ℕ → Leaves → Proposal → Bool
+unfolding allowed equalTables gain atLeastOne
+good g root w p = allowed (g .net) root w p && (equalTables g root w p && atLeastOne (gain g root p))
+
+-- the record of a good replacement; its gain is positive, so the gain's size is the gain
+unfoldable pub candidateOf : Graph → ℕ → Proposal → Candidate
+unfolding gain
+candidateOf g root p =
+    record { kind = p .kind; first = p .first .0; second = p .second .0; turned = p .turned; gain = natAbs (gain g root p) }
+
+-- the list: one record for each good replacement
+unfoldable pub listed : Graph → ℕ → Leaves → List Candidate
+unfolding keep candidates good candidateOf
+listed g root w = map (candidateOf g root) (keep (good g root w) (candidates root))
+
+-- the replacement that a record names
+abbrev pub proposalOf : Candidate → Proposal
+proposalOf x = record { kind = x .kind; first = record { 0 = x .first }; second = record { 0 = x .second }; turned = x .turned }
+
+-- the records' fields one after another
+unfoldable pub fields : List Candidate → List ℕ
+fields [] = []
+fields (x ∷ xs) = x .kind ∷ x .first ∷ x .second ∷ x .turned ∷ x .gain ∷ fields xs
