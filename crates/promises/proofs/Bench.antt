@@ -2,7 +2,8 @@
 -- Assumes nothing.
 use mathlib.Core.Path.{_≡_, refl}
 use mathlib.Core.Bool.{true}
-use Rattle.promises.specs.Bench.{agree, bench}
+use Rattle.promises.specs.Calls.{agree}
+use Rattle.promises.specs.Bench.{bench}
 
 pub bench-agrees : agree bench ≡ true
 unfolding agree bench
