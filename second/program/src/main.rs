@@ -1,0 +1,44 @@
+//! The lister and the shrinker. Each reads one text from standard input; a
+//! refused text prints `refused`, the number and the name, parted by tabs.
+
+mod lister;
+mod shrinker;
+mod source;
+
+use std::env;
+use std::io::{self, BufWriter, Write};
+use std::process::ExitCode;
+
+type Command = fn(&mut dyn Write) -> io::Result<()>;
+
+const COMMANDS: [(&str, Command); 2] = [("list", lister::list), ("shrink", shrinker::shrink)];
+
+/// The command that the arguments name, if they name one and nothing else.
+fn chosen() -> Option<Command> {
+    let arguments: Vec<String> = env::args().skip(1).collect();
+    let [wanted] = arguments.as_slice() else {
+        return None;
+    };
+    let named = COMMANDS.iter().find(|(name, _)| name == wanted);
+    named.map(|&(_, command)| command)
+}
+
+fn run(command: Command) -> io::Result<()> {
+    let mut out = BufWriter::new(io::stdout().lock());
+    command(&mut out)?;
+    out.flush()
+}
+
+fn main() -> ExitCode {
+    let Some(command) = chosen() else {
+        eprintln!("usage: second list|shrink");
+        return ExitCode::from(2);
+    };
+    match run(command) {
+        Ok(()) => ExitCode::SUCCESS,
+        Err(error) => {
+            eprintln!("second: {error}");
+            ExitCode::FAILURE
+        }
+    }
+}

@@ -1,0 +1,63 @@
+//! Random roots and leaf sets, good and bad of every sort.
+
+use crate::Random;
+use model::{Graph, Leaves, Var};
+
+/// A gate in use, if there is one.
+pub fn good_root(random: &mut Random, graph: &Graph) -> Option<Var> {
+    let marks = graph.marks();
+    let gates = graph.numbered_gates().map(|gate| gate.0);
+    let in_use: Vec<Var> = gates.filter(|gate| marks[gate.index()]).collect();
+    (!in_use.is_empty()).then(|| random.pick(&in_use))
+}
+
+/// The constant, an input, a gate not in use or no variable at all.
+pub fn bad_root(random: &mut Random, graph: &Graph) -> Var {
+    let (marks, last) = (graph.marks(), graph.last_var());
+    let is_gate = |var: &Var| u64::from(var.0) > graph.inputs;
+    let mut bad: Vec<Var> = (0..=last.0).map(Var).collect();
+    bad.retain(|var| !is_gate(var) || !marks[var.index()]);
+    bad.extend([Var(last.0 + 1), Var(1 << 31), Var(u32::MAX)]);
+    random.pick(&bad)
+}
+
+/// Up to six leaves, well set down, that cut the root or do not.
+pub fn good_leaves(random: &mut Random, root: Var) -> Leaves {
+    let mut leaves = Leaves::default();
+    for _ in 0..random.between(0, 6) {
+        let leaf = Var(random.word_between(0, root.0.saturating_sub(1)));
+        leaves = leaves.with(leaf).unwrap_or(leaves);
+    }
+    leaves
+}
+
+/// Leaves that cut the root: its fanins after some random expansions.
+pub fn cut(random: &mut Random, graph: &Graph, root: Var) -> Leaves {
+    let fanins = graph.fanins(root).into_iter().flatten();
+    let mut leaves = Leaves::of(fanins.map(|lit| lit.var())).unwrap_or_default();
+    for _ in 0..random.between(0, 30) {
+        let vars: Vec<Var> = leaves.vars().collect();
+        if vars.is_empty() {
+            break;
+        }
+        let expansion = leaves.expanded(graph, random.pick(&vars));
+        leaves = expansion.unwrap_or(leaves);
+    }
+    leaves
+}
+
+/// One fault in a leaf set that is else well set down.
+pub fn bad_leaves(random: &mut Random, root: Var) -> Leaves {
+    let mut leaves = good_leaves(random, root);
+    let count = leaves.count;
+    match random.between(0, 5) {
+        0 => leaves.count = random.pick(&[7, 8, 64, 1 << 32, usize::MAX]),
+        1 if count >= 2 => leaves.places[..count].reverse(),
+        2 if count >= 2 => leaves.places[1] = leaves.places[0],
+        3 if count >= 1 => leaves.places[0] = 0,
+        4 if count >= 1 => leaves.places[count - 1] = random.pick(&[root.0, root.0 + 1, u32::MAX]),
+        _ if count < 6 => leaves.places[random.between(count, 5)] = 1,
+        _ => leaves.count = 7,
+    }
+    leaves
+}

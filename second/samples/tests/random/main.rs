@@ -1,0 +1,11 @@
+//! The model on random samples, against slow and plain restatements.
+
+mod calls;
+mod leaf_rule;
+mod lists;
+mod naive;
+mod refusing;
+mod runs;
+mod sample_graphs;
+mod tables;
+mod texts;
