@@ -2,12 +2,12 @@
 -- Assumes nothing.
 use Prim.Native.Nat.{ℕ, suc, _+_, _-_, _*_, _%_}
 use mathlib.Core.Bool.{Bool, true, false, cond}
-use mathlib.Core.List.{List, [], _∷_, map}
+use mathlib.Core.List.{List, [], _∷_}
 use lib.Dec.{leb}
 use lib.ListN.{getD}
 use Rattle.graph.specs.Lists.{gather}
 use Rattle.graph.specs.Literal.{varOf}
-use Rattle.graph.specs.Graph.{Net, Graph, netOf, free, size, first, second}
+use Rattle.graph.specs.Graph.{Net, Graph, netOf, overNet, free, size, first, second}
 use Rattle.graph.specs.Use.{marks, countMarks}
 
 -- the number of variable v afterwards: a marked gate counts the marked gates up to itself
@@ -30,4 +30,4 @@ keptNet net ms = netOf (net .inputs) (gather (λ k. keptGate net ms (suc (free n
 
 unfoldable pub dropped : Graph → Graph
 unfolding keptNet renumbered marks
-dropped g = record { net = keptNet (g .net) (marks g); outputs = map (renumbered (g .net) (marks g)) (g .outputs) }
+dropped g = overNet (keptNet (g .net) (marks g)) (renumbered (g .net) (marks g)) g

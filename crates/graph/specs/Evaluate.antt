@@ -12,7 +12,7 @@ use Rattle.graph.specs.declared.refusal.Evaluated.the-variants.{Outputs,
 use Rattle.graph.specs.Lists.{all}
 use Rattle.graph.specs.Lent.{short, written}
 use Rattle.graph.specs.Refuse.{Row, _⇒_, firstRefusal, Outcome, accepted, refused, numberOf}
-use Rattle.graph.specs.Graph.{Net, Graph, free, last, wellFormed}
+use Rattle.graph.specs.Graph.{Net, Graph, free, last, sinks, wellFormed}
 use Rattle.graph.specs.Sweep.{bools, litValue, values}
 
 -- an input has the value that the assignment gives it, a gate none of its own
@@ -27,7 +27,7 @@ valuesUnder net a n = values bools (assigned net a) net n
 -- the values of the outputs under the assignment a
 unfoldable pub outputsUnder : Graph → (ℕ → Bool) → List Bool
 unfolding valuesUnder litValue bools
-outputsUnder g a = map (litValue bools (valuesUnder (g .net) a (last (g .net)))) (g .outputs)
+outputsUnder g a = map (litValue bools (valuesUnder (g .net) a (last (g .net)))) (sinks g)
 
 -- ---- the call: lent values, one an input, and a lent list for one value an output
 
@@ -45,12 +45,12 @@ unfolding wellFormed isAssignment short
 evaluateRefusals g vs lent =
     not (wellFormed g) ⇒ BadGraph
     ∷ not (isAssignment (g .net) vs) ⇒ BadAssignment
-    ∷ short (length (g .outputs)) lent ⇒ NoRoom
+    ∷ short (length (sinks g)) lent ⇒ NoRoom
     ∷ []
 
 unfoldable pub evaluated : Graph → List ℕ → List ℕ → Evaluated
 unfolding evaluateRefusals firstRefusal
-evaluated g vs lent = elim (firstRefusal (evaluateRefusals g vs lent)) [ some r ↦ Refused r | none ↦ Outputs (length (g .outputs)) ]
+evaluated g vs lent = elim (firstRefusal (evaluateRefusals g vs lent)) [ some r ↦ Refused r | none ↦ Outputs (length (sinks g)) ]
 
 -- the lent list afterwards
 unfoldable pub evaluatedInto : Graph → List ℕ → List ℕ → List ℕ

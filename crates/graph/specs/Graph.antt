@@ -3,7 +3,7 @@
 use Prim.Native.Nat.{ℕ, zero, suc, _+_, _-_, _*_, _/_, _%_, _≤_, _<_}
 use mathlib.Core.Path.{_≡_}
 use mathlib.Core.Bool.{Bool, _&&_}
-use mathlib.Core.List.{List, [], _∷_}
+use mathlib.Core.List.{List, [], _∷_, map}
 use lib.Dec.{leb, ltb, eqb}
 use lib.ListN.{length, getD}
 use Rattle.graph.specs.Lists.{every, allBelow, all}
@@ -39,6 +39,10 @@ last net = free net + size net
 -- the literals whose values the graph must keep
 abbrev pub sinks : Graph → List ℕ
 sinks g = g .outputs
+
+-- the graph over another net, where f gives each of these literals anew
+abbrev pub overNet : Net → (ℕ → ℕ) → Graph → Graph
+overNet net f g = record { net = net; outputs = map f (g .outputs) }
 
 -- the two literals of variable v's gate
 unfoldable pub first : Net → ℕ → ℕ

@@ -1,8 +1,9 @@
 -- Lists and tests that the definitions share.
 -- Assumes nothing.
 use Prim.Native.Nat.{ℕ, zero, suc}
-use mathlib.Core.Bool.{Bool, true, false, _&&_}
+use mathlib.Core.Bool.{Bool, true, false, _&&_, _||_}
 use mathlib.Core.List.{List, [], _∷_, _++_}
+use lib.Dec.{eqb}
 
 -- the pieces f 0, f 1, .. f (n - 1), joined
 unfoldable pub gather : {A : Type 0} → (ℕ → List A) → ℕ → List A
@@ -23,6 +24,11 @@ allBelow f (suc n) = f n && allBelow f n
 unfoldable pub all : {A : Type 0} → (A → Bool) → List A → Bool
 all f [] = true
 all f (x ∷ xs) = f x && all f xs
+
+-- the number x stands in the list
+unfoldable pub isIn : ℕ → List ℕ → Bool
+isIn x [] = false
+isIn x (y ∷ ys) = eqb x y || isIn x ys
 
 -- the elements at which f passes, in their order
 unfoldable pub keep : {A : Type 0} → (A → Bool) → List A → List A

@@ -2,12 +2,12 @@
 -- Assumes nothing.
 use Prim.Native.Nat.{ℕ, suc, _+_, _*_, max, min}
 use mathlib.Core.Bool.{Bool, true, false, cond}
-use mathlib.Core.List.{List, [], _∷_, map}
+use mathlib.Core.List.{List, [], _∷_}
 use lib.Dec.{ltb, eqb}
 use lib.IntN.{ℤ, pos, negsuc, subℕ}
 use Rattle.graph.specs.Lists.{gather}
 use Rattle.graph.specs.Literal.{varOf, flip}
-use Rattle.graph.specs.Graph.{Net, Graph, netOf, free, size, first, second}
+use Rattle.graph.specs.Graph.{Net, Graph, netOf, overNet, free, size, first, second}
 use Rattle.graph.specs.Use.{usedGates}
 use Rattle.graph.specs.Drop.{dropped}
 use Rattle.replace.specs.declared.Proposal.{Proposal}
@@ -42,7 +42,7 @@ rewiredNet net root p = netOf (net .inputs) (gather (λ k. rewiredGate net root 
 -- the graph with every reference to the root redirected
 unfoldable pub rewired : Graph → ℕ → Proposal → Graph
 unfolding rewiredNet redirected
-rewired g root p = record { net = rewiredNet (g .net) root p; outputs = map (redirected root p) (g .outputs) }
+rewired g root p = overNet (rewiredNet (g .net) root p) (redirected root p) g
 
 -- the finished graph: gates not in use are dropped, and the rest renumbered
 unfoldable pub finished : Graph → ℕ → Proposal → Graph

@@ -2,11 +2,10 @@
 -- Assumes nothing.
 use Prim.Native.Nat.{ℕ, suc, _+_, _*_}
 use mathlib.Core.Path.{_≡_}
-use mathlib.Core.Bool.{Bool, true, false, cond, _||_}
+use mathlib.Core.Bool.{Bool, true, false, cond}
 use mathlib.Core.List.{List, [], _∷_, _++_}
-use lib.Dec.{eqb}
 use lib.ListN.{length, getD}
-use Rattle.graph.specs.Lists.{gather}
+use Rattle.graph.specs.Lists.{gather, isIn}
 use Rattle.graph.specs.Graph.{Net, Graph, free, size, last, first, second, Lawful}
 use Rattle.text.specs.Line.{line, space}
 
@@ -39,10 +38,15 @@ unfoldable pub gateLines : Net → (ℕ → Bool) → List ℕ
 unfolding gather gateLine
 gateLines net s = gather (λ k. gateLine net (suc (free net + k)) (s k)) (size net)
 
--- the rest of a text is skipped if it is empty or starts with `i`, `o` or `c`
+-- the letters `i`, `o` and `c`
+abbrev pub restLetters : List ℕ
+restLetters = 105 ∷ 111 ∷ 99 ∷ []
+
+-- the rest of a text is skipped if it is empty or starts with one of them
 unfoldable pub skipped : List ℕ → Bool
+unfolding isIn
 skipped [] = true
-skipped (b ∷ bs) = eqb b 105 || eqb b 111 || eqb b 99
+skipped (b ∷ bs) = isIn b restLetters
 
 -- a text of the graph g: header, input lines, output lines, gate lines, and a rest
 unfoldable pub textWith : Graph → (ℕ → Bool) → List ℕ → List ℕ
