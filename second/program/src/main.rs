@@ -1,9 +1,11 @@
-//! The lister and the shrinker. Each reads one text from standard input; a
-//! refused text prints `refused`, the number and the name, parted by tabs.
+//! The lister and the shrinker, each of which reads one text from standard
+//! input; a refused text prints `refused`, the number and the name, parted by
+//! tabs. Beside them what the proved definitions are compared with.
 
 mod lister;
 mod shrinker;
 mod source;
+mod vectors;
 
 use std::env;
 use std::io::{self, BufWriter, Write};
@@ -11,7 +13,11 @@ use std::process::ExitCode;
 
 type Command = fn(&mut dyn Write) -> io::Result<()>;
 
-const COMMANDS: [(&str, Command); 2] = [("list", lister::list), ("shrink", shrinker::shrink)];
+const COMMANDS: [(&str, Command); 3] = [
+    ("list", lister::list),
+    ("shrink", shrinker::shrink),
+    ("vectors", vectors::print),
+];
 
 /// The command that the arguments name, if they name one and nothing else.
 fn chosen() -> Option<Command> {
@@ -31,7 +37,7 @@ fn run(command: Command) -> io::Result<()> {
 
 fn main() -> ExitCode {
     let Some(command) = chosen() else {
-        eprintln!("usage: second list|shrink");
+        eprintln!("usage: second list|shrink|vectors");
         return ExitCode::from(2);
     };
     match run(command) {

@@ -1,0 +1,68 @@
+//! Prints sampled calls as a module of rows: what the definitions give, which
+//! the prover computes, and what this program answers. Each row is a claim of
+//! its own, so that a refused one is named.
+
+mod arguments;
+mod calls;
+mod notation;
+
+use samples::Random;
+use std::io::{self, Write};
+use std::iter;
+
+const SEED: u64 = 1;
+
+const HEADER: &str = "\
+use mathlib.Core.Path.{_≡_, refl}
+use mathlib.Core.Bool.{true}
+use mathlib.Core.List.{[], _∷_}
+use Rattle.graph.specs.Graph.{graphOf}
+use Rattle.promises.specs.Calls.{
+  agree,
+  _gives_,
+  buffers,
+  readCall,
+  writeCall,
+  evaluateCall,
+  pickCall,
+  tableCall,
+  listCall,
+  applyCall,
+  runCall,
+}
+";
+
+/// A call of the definitions, and what it must give: the answer, then each
+/// lent word as the call leaves it.
+pub struct Row {
+    call: &'static str,
+    arguments: Vec<String>,
+    says: Vec<u64>,
+}
+
+pub fn print(out: &mut dyn Write) -> io::Result<()> {
+    let mut random = Random::new(SEED);
+    let samplers = calls::SAMPLERS.into_iter();
+    let each = samplers.flat_map(|(rows, sampler)| iter::repeat(sampler).take(rows));
+    write!(out, "{HEADER}")?;
+    for (number, sampler) in each.enumerate() {
+        print_row(number, &sampler(&mut random), out)?;
+    }
+    Ok(())
+}
+
+fn print_row(number: usize, row: &Row, out: &mut dyn Write) -> io::Result<()> {
+    let Row {
+        call,
+        arguments,
+        says,
+    } = row;
+    let (arguments, says) = (arguments.join(" "), notation::list(says));
+    writeln!(out)?;
+    writeln!(
+        out,
+        "row-{number} : agree (({call} {arguments}) gives {says} ∷ []) ≡ true"
+    )?;
+    writeln!(out, "unfolding agree {call}")?;
+    writeln!(out, "row-{number} = refl")
+}
