@@ -1,16 +1,14 @@
 -- The test of a graph says just what its record of facts says.
 -- Assumes nothing.
 use mathlib.Core.Path.{_≡_, refl, sym, ap, _∙_}
-use mathlib.Core.Bool.{Bool, true, _&&_}
-use mathlib.Core.List.{List, [], _∷_}
+use mathlib.Core.Bool.{true}
 use mathlib.Core.Logic.{_↔_}
-use Prim.Native.Nat.{ℕ, suc, _+_, _-_, _*_, _%_, _≤_, _<_}
+use Prim.Native.Nat.{ℕ, suc, _+_, _-_, _*_, _≤_, _<_}
 use native.Mathlib.Omega.{arith}
 use borrow.Author.Tests.{leb-true, ltb-true, eqb-true, le-leb, lt-ltb, eq-eqb}
-use lib.Dec.{leb, ltb, eqb}
-use lib.ListN.{length, getD}
-use Rattle.graph.specs.Lists.{every, allBelow, all}
-use Rattle.graph.specs.Graph.{Net, Graph, free, size, last, sinks, first, second, gateOk, sinkOk, rules, wellFormed, IsGate, Lawful, WellFormed}
+use lib.Dec.{leb, ltb}
+use Rattle.graph.specs.Lists.{every, allBelow}
+use Rattle.graph.specs.Graph.{Net, Graph, free, size, sinks, first, second, gateOk, sinkOk, rules, wellFormed, IsGate, WellFormed}
 use Rattle.graph.proofs.Lists.{and-left, and-right, and-both, every-at, every-of, done, _then_, allBelow-at, allBelow-of, all-at, all-of}
 
 well-is : (g : Graph) → wellFormed g ≡ every (rules g)

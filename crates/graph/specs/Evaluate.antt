@@ -1,7 +1,7 @@
 -- Evaluating a graph under an assignment of its inputs.
 -- Assumes nothing.
 use Prim.Native.Nat.{ℕ, _-_}
-use mathlib.Core.Bool.{Bool, true, false, cond, not, _&&_}
+use mathlib.Core.Bool.{Bool, cond, not, _&&_}
 use mathlib.Core.List.{List, [], _∷_, map}
 use mathlib.Core.Option.{Option, none, some}
 use lib.Dec.{leb, eqb}
@@ -10,7 +10,7 @@ use Rattle.graph.specs.declared.refusal.Refusal.the-variants.{BadGraph, 
 use Rattle.graph.specs.declared.refusal.Evaluated.{Evaluated}
 use Rattle.graph.specs.declared.refusal.Evaluated.the-variants.{Outputs, Refused}
 use Rattle.graph.specs.Lists.{all}
-use Rattle.graph.specs.Lent.{short, written}
+use Rattle.graph.specs.Lent.{short, written, Effect, _leaving_}
 use Rattle.graph.specs.Refuse.{Row, _⇒_, firstRefusal, Outcome, accepted, refused, numberOf}
 use Rattle.graph.specs.Graph.{Net, Graph, free, last, sinks, wellFormed}
 use Rattle.graph.specs.Sweep.{bools, litValue, values}
@@ -48,17 +48,12 @@ evaluateRefusals g vs lent =
     ∷ short (length (sinks g)) lent ⇒ NoRoom
     ∷ []
 
-unfoldable pub evaluated : Graph → List ℕ → List ℕ → Evaluated
-unfolding evaluateRefusals firstRefusal
-evaluated g vs lent = elim (firstRefusal (evaluateRefusals g vs lent)) [ some r ↦ Refused r | none ↦ Outputs (length (sinks g)) ]
-
--- the lent list afterwards
-unfoldable pub evaluatedInto : Graph → List ℕ → List ℕ → List ℕ
+unfoldable pub evaluateEffect : Graph → List ℕ → List ℕ → Effect Evaluated (List ℕ)
 unfolding evaluateRefusals firstRefusal written outputsUnder assignmentOf
-evaluatedInto g vs lent =
+evaluateEffect g vs lent =
     elim (firstRefusal (evaluateRefusals g vs lent)) [
-      | some r ↦ lent
-      | none ↦ written (map (λ b. cond b 1 0) (outputsUnder g (assignmentOf vs))) lent
+      | some r ↦ Refused r leaving lent
+      | none ↦ Outputs (length (sinks g)) leaving written (map (λ b. cond b 1 0) (outputsUnder g (assignmentOf vs))) lent
     ]
 
 unfoldable pub evaluatedOutcome : Evaluated → Outcome

@@ -1,4 +1,4 @@
--- Lent lists: the room that a call needs, and what a list holds once it was written to.
+-- Lent lists: the room that a call needs, and what it leaves behind.
 -- Assumes nothing.
 use Prim.Native.Nat.{ℕ}
 use mathlib.Core.Bool.{Bool, _||_}
@@ -11,11 +11,30 @@ use Rattle.graph.specs.Graph.{Graph}
 unfoldable pub short : {A : Type 0} → ℕ → List A → Bool
 short need lent = ltb (length lent) need
 
--- lists lent for a graph need two words a gate and one an output
-unfoldable pub noRoomFor : Graph → List ℕ → List ℕ → Bool
-unfolding short
-noRoomFor g gates outputs = short (length (g .net .gates)) gates || short (length (g .outputs)) outputs
-
 -- the lent list with xs in its first places; places past them keep their contents
 unfoldable pub written : {A : Type 0} → List A → List A → List A
 written xs lent = xs ++ drop (length xs) lent
+
+-- two lists lent for a graph
+pub record Buffers : Type 0 where
+  pub gates : List ℕ
+  pub outputs : List ℕ
+
+-- they need two words a gate and one an output
+unfoldable pub noRoomFor : Graph → Buffers → Bool
+unfolding short
+noRoomFor g b = short (length (g .net .gates)) (b .gates) || short (length (g .outputs)) (b .outputs)
+
+-- the two lists with these words written
+unfoldable pub storedIn : List ℕ → List ℕ → Buffers → Buffers
+unfolding written
+storedIn gates outputs b = record { gates = written gates (b .gates); outputs = written outputs (b .outputs) }
+
+-- what a call answers, and what its lent lists hold afterwards
+pub record Effect (A L : Type 0) : Type 0 where
+  pub answer : A
+  pub lent : L
+
+infix 60 _leaving_
+abbrev pub _leaving_ : {A L : Type 0} → A → L → Effect A L
+x leaving y = record { answer = x; lent = y }

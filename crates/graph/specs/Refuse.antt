@@ -1,7 +1,7 @@
 -- What comes back: the refusals by name and number, and which one is given.
 -- Assumes nothing.
 use Prim.Native.Nat.{ℕ}
-use mathlib.Core.Bool.{Bool, true, false, cond}
+use mathlib.Core.Bool.{Bool, cond}
 use mathlib.Core.List.{List, [], _∷_}
 use mathlib.Core.Option.{Option, none, some}
 use Rattle.graph.specs.declared.refusal.Refusal.{Refusal}

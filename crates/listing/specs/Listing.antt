@@ -3,7 +3,7 @@
 use Prim.Native.Nat.{ℕ, _*_}
 use mathlib.Core.Bool.{Bool, _&&_}
 use mathlib.Core.List.{List, [], _∷_, _++_, map}
-use lib.IntN.{ℤ, natAbs}
+use lib.IntN.{natAbs}
 use Rattle.graph.specs.Lists.{gather, keep}
 use Rattle.graph.specs.Graph.{Graph}
 use Rattle.window.specs.declared.Leaves.{Leaves}

@@ -6,7 +6,7 @@ use Prim.Native.String.{String, [] as empty, _∷_ as _then_}
 use mathlib.Core.List.{List, [], _∷_, _++_}
 use Rattle.graph.specs.Graph.{Graph, graphOf}
 use Rattle.text.specs.States.{textOf}
-use Rattle.text.specs.Reading.{Reading, refuses, yields, reading}
+use Rattle.text.specs.Reading.{refuses, yields, reading}
 use Rattle.window.specs.Leaves.{leavesOf}
 use Rattle.window.specs.LeafRule.{picked}
 use Rattle.replace.specs.Proposal.{literal, andGate}
@@ -53,18 +53,18 @@ bench =
     ∷ listCall e1 4 (leavesOf (1 ∷ 2 ∷ [])) 2 gives (0 ∷ 2 ∷ 0 ∷ 6 ∷ 0 ∷ 0 ∷ 1 ∷ 1 ∷ 4 ∷ 2 ∷ 0 ∷ 1 ∷ [])
     -- P4 and P5: over leaves 1 and 3 the list is empty, and variable 2 is not covered
     ∷ listCall e1 4 (leavesOf (1 ∷ 3 ∷ [])) 0 gives (0 ∷ 0 ∷ [])
-    ∷ applyCall e1 4 (leavesOf (1 ∷ 3 ∷ [])) (andGate 4 2 0) 0 0 gives (12 ∷ [])
+    ∷ applyCall e1 4 (leavesOf (1 ∷ 3 ∷ [])) (andGate 4 2 0) (buffers 0 0) gives (12 ∷ [])
     -- P6 to P8: another table, no gain, no cut
-    ∷ applyCall e1 4 (leavesOf (1 ∷ 2 ∷ [])) (literal 2) 0 0 gives (13 ∷ [])
-    ∷ applyCall e1 4 (leavesOf (1 ∷ 2 ∷ [])) (andGate 6 2 0) 0 0 gives (14 ∷ [])
-    ∷ (tableCall e1 3 (leavesOf (1 ∷ [])) ++ listCall e1 3 (leavesOf (1 ∷ [])) 0 ++ applyCall e1 3 (leavesOf (1 ∷ [])) (literal 2) 0 0) gives (11 ∷ 11 ∷ 11 ∷ [])
+    ∷ applyCall e1 4 (leavesOf (1 ∷ 2 ∷ [])) (literal 2) (buffers 0 0) gives (13 ∷ [])
+    ∷ applyCall e1 4 (leavesOf (1 ∷ 2 ∷ [])) (andGate 6 2 0) (buffers 0 0) gives (14 ∷ [])
+    ∷ (tableCall e1 3 (leavesOf (1 ∷ [])) ++ listCall e1 3 (leavesOf (1 ∷ [])) 0 ++ applyCall e1 3 (leavesOf (1 ∷ [])) (literal 2) (buffers 0 0)) gives (11 ∷ 11 ∷ 11 ∷ [])
     -- P9 and P10: one replacement leaves no gate, and output 0 or 1; the work area's words are 0
     ∷ runCall e9 (buffers 2 1) (buffers 2 1) gives (0 ∷ 0 ∷ 1 ∷ 0 ∷ 0 ∷ 0 ∷ 0 ∷ 0 ∷ 0 ∷ [])
     ∷ runCall e10 (buffers 2 1) (buffers 2 1) gives (0 ∷ 0 ∷ 1 ∷ 0 ∷ 0 ∷ 1 ∷ 0 ∷ 0 ∷ 0 ∷ [])
     -- P11: one good replacement at 4, kind 0 literal 2, gain 2
     ∷ listCall e11 4 (picked (e11 .net) 4) 1 gives (0 ∷ 1 ∷ 0 ∷ 2 ∷ 0 ∷ 0 ∷ 2 ∷ [])
     -- P12: the empty graph is read, and a run changes nothing
-    ∷ (readCall (bytes e12) 0 0 ++ runCall (graphIn e12) (buffers 0 0) (buffers 0 0)) gives (0 ∷ 0 ∷ 0 ∷ 0 ∷ 0 ∷ 0 ∷ 0 ∷ [])
+    ∷ (readCall (bytes e12) (buffers 0 0) ++ runCall (graphIn e12) (buffers 0 0) (buffers 0 0)) gives (0 ∷ 0 ∷ 0 ∷ 0 ∷ 0 ∷ 0 ∷ 0 ∷ [])
     -- E1 shrunk: one gate is left
     ∷ textOf (run e1 .graph) gives bytes "aag 3 2 0 1 1\n2\n4\n6\n6 4 2\n"
     ∷ []

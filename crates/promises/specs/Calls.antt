@@ -7,16 +7,17 @@ use lib.Dec.{eqb}
 use lib.ListN.{replicate}
 use Rattle.graph.specs.Refuse.{Outcome}
 use Rattle.graph.specs.Graph.{Graph}
-use Rattle.graph.specs.Evaluate.{evaluated, evaluatedOutcome, evaluatedInto}
-use Rattle.text.specs.Calls.{readAnswer, readOutcome, readGates, readOutputs, writeAnswer, writtenOutcome, writtenBytes}
+use Rattle.graph.specs.Lent.{Buffers}
+use Rattle.graph.specs.Evaluate.{evaluateEffect, evaluatedOutcome}
+use Rattle.text.specs.Calls.{readEffect, readOutcome, writeEffect, writtenOutcome}
 use Rattle.window.specs.declared.Leaves.{Leaves}
 use Rattle.window.specs.Calls.{pickAnswer, pickOutcome, tableAnswer, tableOutcome}
 use Rattle.replace.specs.declared.Proposal.{Proposal}
-use Rattle.replace.specs.Calls.{applyAnswer, appliedOutcome, appliedGates, appliedOutputs}
+use Rattle.replace.specs.Calls.{applyEffect, appliedOutcome}
 use Rattle.listing.specs.declared.Candidate.{Candidate}
 use Rattle.listing.specs.Listing.{fields}
-use Rattle.listing.specs.Calls.{listAnswer, listedOutcome, listedInto}
-use Rattle.run.specs.Calls.{Buffers, runAnswer, ranOutcome, runResult, runWork}
+use Rattle.listing.specs.Calls.{listEffect, listedOutcome}
+use Rattle.run.specs.Calls.{runEffect, ranOutcome}
 
 -- 0 or the refusal's number, and the values that come with it
 abbrev pub said : Outcome → List ℕ
@@ -38,20 +39,20 @@ lentRecords n = replicate n (record { kind = unwritten; first = unwritten; secon
 abbrev pub buffers : ℕ → ℕ → Buffers
 buffers a o = record { gates = lent a; outputs = lent o }
 
-abbrev pub held : Buffers → List ℕ
+abbrev held : Buffers → List ℕ
 held b = b .gates ++ b .outputs
 
-unfoldable pub readCall : List ℕ → ℕ → ℕ → List ℕ
-unfolding readAnswer readOutcome readGates readOutputs
-readCall t a o = said (readOutcome (readAnswer t (lent a) (lent o))) ++ readGates t (lent a) (lent o) ++ readOutputs t (lent a) (lent o)
+unfoldable pub readCall : List ℕ → Buffers → List ℕ
+unfolding readEffect readOutcome
+readCall t b = let e = readEffect t b in said (readOutcome (e .answer)) ++ held (e .lent)
 
 unfoldable pub writeCall : Graph → ℕ → List ℕ
-unfolding writeAnswer writtenOutcome writtenBytes
-writeCall g n = said (writtenOutcome (writeAnswer g (lent n))) ++ writtenBytes g (lent n)
+unfolding writeEffect writtenOutcome
+writeCall g n = let e = writeEffect g (lent n) in said (writtenOutcome (e .answer)) ++ e .lent
 
 unfoldable pub evaluateCall : Graph → List ℕ → ℕ → List ℕ
-unfolding evaluated evaluatedOutcome evaluatedInto
-evaluateCall g vs n = said (evaluatedOutcome (evaluated g vs (lent n))) ++ evaluatedInto g vs (lent n)
+unfolding evaluateEffect evaluatedOutcome
+evaluateCall g vs n = let e = evaluateEffect g vs (lent n) in said (evaluatedOutcome (e .answer)) ++ e .lent
 
 unfoldable pub pickCall : Graph → ℕ → List ℕ
 unfolding pickAnswer pickOutcome
@@ -62,19 +63,18 @@ unfolding tableAnswer tableOutcome
 tableCall g root w = said (tableOutcome (tableAnswer g root w))
 
 unfoldable pub listCall : Graph → ℕ → Leaves → ℕ → List ℕ
-unfolding lentRecords listAnswer listedOutcome listedInto fields
-listCall g root w n = said (listedOutcome (listAnswer g root w (lentRecords n))) ++ fields (listedInto g root w (lentRecords n))
+unfolding lentRecords listEffect listedOutcome fields
+listCall g root w n = let e = listEffect g root w (lentRecords n) in said (listedOutcome (e .answer)) ++ fields (e .lent)
 
-unfoldable pub applyCall : Graph → ℕ → Leaves → Proposal → ℕ → ℕ → List ℕ
-unfolding applyAnswer appliedOutcome appliedGates appliedOutputs
-applyCall g root w p a o =
-    said (appliedOutcome (applyAnswer g root w p (lent a) (lent o)))
-    ++ appliedGates g root w p (lent a) (lent o)
-    ++ appliedOutputs g root w p (lent a) (lent o)
+unfoldable pub applyCall : Graph → ℕ → Leaves → Proposal → Buffers → List ℕ
+unfolding applyEffect appliedOutcome
+applyCall g root w p b = let e = applyEffect g root w p b in said (appliedOutcome (e .answer)) ++ held (e .lent)
 
 unfoldable pub runCall : Graph → Buffers → Buffers → List ℕ
-unfolding runAnswer ranOutcome runResult runWork
-runCall g result work = said (ranOutcome (runAnswer g result work)) ++ held (runResult g result work) ++ held (runWork g result work)
+unfolding runEffect ranOutcome
+runCall g result work =
+    let e = runEffect g (record { result = result; work = work }) in
+    said (ranOutcome (e .answer)) ++ held (e .lent .result) ++ held (e .lent .work)
 
 -- ---- rows of examples
 

@@ -3,10 +3,10 @@
 use Prim.Native.Nat.{ℕ}
 use mathlib.Core.Bool.{Bool, not}
 use mathlib.Core.List.{List, [], _∷_, _++_}
-use mathlib.Core.Option.{Option, none, some}
+use mathlib.Core.Option.{none, some}
 use lib.ListN.{length}
 use Rattle.graph.specs.declared.refusal.Refusal.the-variants.{BadCandidate, NotEqual, NoGain, OrderLost, NoRoom}
-use Rattle.graph.specs.Lent.{noRoomFor, written}
+use Rattle.graph.specs.Lent.{Buffers, noRoomFor, storedIn, Effect, _leaving_}
 use Rattle.graph.specs.Refuse.{Row, _⇒_, firstRefusal, Outcome, accepted, refused, numberOf}
 use Rattle.graph.specs.Graph.{Graph, size, wellFormed}
 use Rattle.window.specs.declared.Leaves.{Leaves}
@@ -23,35 +23,24 @@ unfolding sameTable table proposedTable
 equalTables g root w p = sameTable (proposedTable (g .net) root w p) (table (g .net) w root)
 
 -- the room is that of the finished graph
-unfoldable pub applyRefusals : Graph → ℕ → Leaves → Proposal → List ℕ → List ℕ → List Row
+unfoldable pub applyRefusals : Graph → ℕ → Leaves → Proposal → Buffers → List Row
 unfolding windowRefusals allowed equalTables gain atLeastOne finished wellFormed noRoomFor
-applyRefusals g root w p gates outputs =
+applyRefusals g root w p b =
     windowRefusals g root w
     ++ (not (allowed (g .net) root w p) ⇒ BadCandidate
     ∷ not (equalTables g root w p) ⇒ NotEqual
     ∷ not (atLeastOne (gain g root p)) ⇒ NoGain
     ∷ not (wellFormed (finished g root p)) ⇒ OrderLost
-    ∷ noRoomFor (finished g root p) gates outputs ⇒ NoRoom
+    ∷ noRoomFor (finished g root p) b ⇒ NoRoom
     ∷ [])
 
-unfoldable pub applyAnswer : Graph → ℕ → Leaves → Proposal → List ℕ → List ℕ → Applied
-unfolding applyRefusals firstRefusal finished
-applyAnswer g root w p gates outputs =
-    elim (firstRefusal (applyRefusals g root w p gates outputs)) [
-      | some r ↦ Applied.Refused r
-      | none ↦ let h = finished g root p in Applied.Graph (size (h .net)) (length (h .outputs))
+unfoldable pub applyEffect : Graph → ℕ → Leaves → Proposal → Buffers → Effect Applied Buffers
+unfolding applyRefusals firstRefusal finished storedIn
+applyEffect g root w p b =
+    elim (firstRefusal (applyRefusals g root w p b)) [
+      | some r ↦ Applied.Refused r leaving b
+      | none ↦ let h = finished g root p in Applied.Graph (size (h .net)) (length (h .outputs)) leaving storedIn (h .net .gates) (h .outputs) b
     ]
-
--- the two lent lists afterwards
-unfoldable pub appliedGates : Graph → ℕ → Leaves → Proposal → List ℕ → List ℕ → List ℕ
-unfolding applyRefusals firstRefusal finished written
-appliedGates g root w p gates outputs =
-    elim (firstRefusal (applyRefusals g root w p gates outputs)) [ some r ↦ gates | none ↦ written (finished g root p .net .gates) gates ]
-
-unfoldable pub appliedOutputs : Graph → ℕ → Leaves → Proposal → List ℕ → List ℕ → List ℕ
-unfolding applyRefusals firstRefusal finished written
-appliedOutputs g root w p gates outputs =
-    elim (firstRefusal (applyRefusals g root w p gates outputs)) [ some r ↦ outputs | none ↦ written (finished g root p .outputs) outputs ]
 
 unfoldable pub appliedOutcome : Applied → Outcome
 unfolding numberOf

@@ -1,7 +1,7 @@
 -- What a proposal makes of the graph, and its gain.
 -- Assumes nothing.
 use Prim.Native.Nat.{ℕ, suc, _+_, _*_, max, min}
-use mathlib.Core.Bool.{Bool, true, false, cond}
+use mathlib.Core.Bool.{Bool, false, cond}
 use mathlib.Core.List.{List, [], _∷_}
 use lib.Dec.{ltb, eqb}
 use lib.IntN.{ℤ, pos, negsuc, subℕ}

@@ -3,59 +3,44 @@
 use Prim.Native.Nat.{ℕ, _-_}
 use mathlib.Core.Bool.{not, _||_}
 use mathlib.Core.List.{List, [], _∷_, _++_}
-use mathlib.Core.Option.{Option, none, some}
+use mathlib.Core.Option.{none, some}
 use lib.ListN.{length, replicate}
 use Rattle.graph.specs.declared.refusal.Refusal.the-variants.{BadGraph, NoRoom}
-use Rattle.graph.specs.Lent.{noRoomFor, written}
+use Rattle.graph.specs.Lent.{Buffers, noRoomFor, storedIn, Effect, _leaving_}
 use Rattle.graph.specs.Refuse.{Row, _⇒_, firstRefusal, Outcome, accepted, refused, numberOf}
 use Rattle.graph.specs.Graph.{Graph, size, wellFormed}
 use Rattle.run.specs.declared.Ran.{Ran}
-use Rattle.run.specs.Run.{End, run}
+use Rattle.run.specs.Run.{run}
 
--- lists that hold gates and outputs: the result's, or the work area's
-pub record Buffers : Type 0 where
-  pub gates : List ℕ
-  pub outputs : List ℕ
+-- the lists lent for the result, and those of the work area
+pub record RunBuffers : Type 0 where
+  pub result : Buffers
+  pub work : Buffers
 
 -- the room is that of the source graph, in the result and in the work area alike
-unfoldable pub runRefusals : Graph → Buffers → Buffers → List Row
+unfoldable pub runRefusals : Graph → RunBuffers → List Row
 unfolding wellFormed noRoomFor
-runRefusals g result work =
-    not (wellFormed g) ⇒ BadGraph
-    ∷ (noRoomFor g (result .gates) (result .outputs) || noRoomFor g (work .gates) (work .outputs)) ⇒ NoRoom
-    ∷ []
+runRefusals g b = not (wellFormed g) ⇒ BadGraph ∷ (noRoomFor g (b .result) || noRoomFor g (b .work)) ⇒ NoRoom ∷ []
 
-unfoldable pub runAnswer : Graph → Buffers → Buffers → Ran
-unfolding runRefusals firstRefusal run
-runAnswer g result work =
-    elim (firstRefusal (runRefusals g result work)) [
-      | some r ↦ Ran.Refused r
-      | none ↦ let e = run g in Ran.Finished (size (e .graph .net)) (e .made)
-    ]
-
--- n places: these words, and 0 in the needed places beyond them
+-- n needed words: these, and 0 in the places beyond them
 unfoldable pub filled : ℕ → List ℕ → List ℕ
 filled n xs = xs ++ replicate (n - length xs) 0
 
--- the buffers once two words a source gate and one an output are written
-unfoldable pub writtenTo : Graph → List ℕ → List ℕ → Buffers → Buffers
-unfolding filled written
-writtenTo g gs os b =
-    record { gates = written (filled (length (g .net .gates)) gs) (b .gates); outputs = written (filled (length (g .outputs)) os) (b .outputs) }
+-- the needed words of the source graph g written: gates and outputs, and 0 beyond them
+unfoldable pub filledIn : Graph → List ℕ → List ℕ → Buffers → Buffers
+unfolding filled storedIn
+filledIn g gates outputs b = storedIn (filled (length (g .net .gates)) gates) (filled (length (g .outputs)) outputs) b
 
--- the result afterwards: the finished graph, and 0 in needed words beyond it
-unfoldable pub runResult : Graph → Buffers → Buffers → Buffers
-unfolding runRefusals firstRefusal run writtenTo
-runResult g result work =
-    elim (firstRefusal (runRefusals g result work)) [
-      | some r ↦ result
-      | none ↦ let e = run g in writtenTo g (e .graph .net .gates) (e .graph .outputs) result
+-- afterwards the result holds the finished graph, and the work area 0
+unfoldable pub runEffect : Graph → RunBuffers → Effect Ran RunBuffers
+unfolding runRefusals firstRefusal run filledIn
+runEffect g b =
+    elim (firstRefusal (runRefusals g b)) [
+      | some r ↦ Ran.Refused r leaving b
+      | none ↦ let e = run g in
+          Ran.Finished (size (e .graph .net)) (e .made)
+          leaving record { result = filledIn g (e .graph .net .gates) (e .graph .outputs) (b .result); work = filledIn g [] [] (b .work) }
     ]
-
--- the work area afterwards: its needed words are 0
-unfoldable pub runWork : Graph → Buffers → Buffers → Buffers
-unfolding runRefusals firstRefusal writtenTo
-runWork g result work = elim (firstRefusal (runRefusals g result work)) [ some r ↦ work | none ↦ writtenTo g [] [] work ]
 
 unfoldable pub ranOutcome : Ran → Outcome
 unfolding numberOf

@@ -11,7 +11,7 @@ use Rattle.graph.specs.declared.refusal.Refusal.the-variants.{BadHeader, TooLar
 use Rattle.graph.specs.Lists.{gather}
 use Rattle.graph.specs.Refuse.{Row, _⇒_, firstRefusal}
 use Rattle.graph.specs.Graph.{Graph, graphOf}
-use Rattle.text.specs.Number.{Front, front}
+use Rattle.text.specs.Number.{Front}
 use Rattle.text.specs.Line.{after, lineOf}
 use Rattle.text.specs.States.{aag, skipped}
 

@@ -3,18 +3,18 @@
 use mathlib.Core.Path.{_≡_, refl, sym, ap, _∙_}
 use mathlib.Core.Bool.{Bool, true, false, cond}
 use mathlib.Core.List.{List, [], _∷_}
-use mathlib.Core.Option.{Option, none, some, Option·map}
+use mathlib.Core.Option.{Option, some, Option·map}
 use Prim.Native.Nat.{ℕ, suc, _+_, _≤_, _<_}
 use native.Mathlib.Omega.{arith}
 use lib.Dec.{eqb}
 use lib.ListN.{length, getD, length-take}
 use Rattle.graph.specs.Graph.{Net}
-use Rattle.graph.specs.Sweep.{bools, values}
+use Rattle.graph.specs.Sweep.{bools, valueAt}
 use Rattle.graph.proofs.Sweep.{values-same}
 use Rattle.window.specs.declared.Leaves.{Leaves}
 use Rattle.window.specs.Leaves.{leafLimit, leafList, placeFrom, leafPlace}
-use Rattle.window.specs.Local.{leafOwn, localUpTo, localAt}
-use Rattle.window.specs.Table.{bit, pack, patterns, table}
+use Rattle.window.specs.Local.{leafOwn, localAt}
+use Rattle.window.specs.Table.{bit, pack, table}
 use Rattle.window.proofs.Bits.{pack-lt, bit-pack}
 use Rattle.window.proofs.Tables.{tables-equal}
 
@@ -36,9 +36,9 @@ module _ {A : Type 0} (a a′ : ℕ → A) where
 
 -- an assignment of the leaves gives what its pattern gives
 pub local-by-pattern : (net : Net) (w : Leaves) → w .count ≤ leafLimit → (a : ℕ → Bool) (v : ℕ) → localAt net w a v ≡ localAt net w (bit (pack leafLimit a)) v
-unfolding localAt localUpTo
+unfolding localAt valueAt
 local-by-pattern net w c a v =
-    ap (λ (xs : List Bool). getD xs v false)
+    ap (λ (xs : List Bool). getD xs v (bools .no))
     (values-same bools net net (leafOwn w a) (leafOwn w (bit (pack leafLimit a))) v
     (record { same-free = refl; same-first = λ u l h. refl; same-second = λ u l h. refl })
     (λ u _. own-same a (bit (pack leafLimit a)) w c (λ k l. sym (bit-pack leafLimit a k l)) u))

@@ -13,7 +13,7 @@ use lib.Dec.{eqb}
 use lib.Pow.{pow-mono}
 use lib.ListN.{getD, List·getD-map}
 use Rattle.graph.specs.Graph.{Net}
-use Rattle.graph.specs.Sweep.{Kind, bools, values, valueAt}
+use Rattle.graph.specs.Sweep.{Kind, bools, values}
 use Rattle.graph.proofs.Sweep.{values-map, values-at}
 use Rattle.window.specs.declared.Leaves.{Leaves}
 use Rattle.window.specs.Leaves.{leafPlace}
@@ -89,7 +89,7 @@ functions-packed net w n =
     (λ v. own-map (pack patterns) w (λ j i. bit i j) v ∙ ap (λ (a : ℕ → ℕ). leafOwn w a v) (fun-ext leaf-pattern)) net n
 
 local-stays : (net : Net) (w : Leaves) (a : ℕ → Bool) (n v : ℕ) → v ≤ n → getD (localUpTo net w a n) v false ≡ localAt net w a v
-unfolding localUpTo localAt bools valueAt
+unfolding localUpTo localAt bools
 local-stays net w a n v h = values-at bools (leafOwn w a) net n v h
 
 -- the word of a variable is its table

@@ -5,7 +5,6 @@ use mathlib.Core.Bool.{Bool, true, false, cond, _&&_}
 use mathlib.Core.List.{List}
 use mathlib.Core.Option.{Option, none, some, Option·map}
 use lib.Dec.{leb}
-use lib.ListN.{getD}
 use Rattle.graph.specs.Graph.{Net, free}
 use Rattle.graph.specs.Sweep.{Kind, bools, values, valueAt}
 use Rattle.window.specs.declared.Leaves.{Leaves}
@@ -20,14 +19,10 @@ unfoldable pub coveredOwn : Net → Leaves → ℕ → Option Bool
 unfolding leafPlace
 coveredOwn net w v = elim (leafPlace w v) [ some j ↦ some true | none ↦ cond (leb v (free net)) (some false) none ]
 
--- for each variable from 0 to n, whether it is covered
-unfoldable pub coveredUpTo : Net → Leaves → ℕ → List Bool
-unfolding values coverage coveredOwn
-coveredUpTo net w n = values coverage (coveredOwn net w) net n
-
+-- variable v is covered
 unfoldable pub covered : Net → Leaves → ℕ → Bool
-unfolding coveredUpTo
-covered net w v = getD (coveredUpTo net w v) v false
+unfolding valueAt coverage coveredOwn
+covered net w v = valueAt coverage (coveredOwn net w) net v
 
 -- a leaf has the value that the assignment of the leaves gives its place; a leaf that is a gate too
 unfoldable pub leafOwn : {A : Type 0} → Leaves → (ℕ → A) → ℕ → Option A
@@ -41,5 +36,5 @@ localUpTo net w a n = values bools (leafOwn w a) net n
 
 -- the local function of variable v
 unfoldable pub localAt : Net → Leaves → (ℕ → Bool) → ℕ → Bool
-unfolding localUpTo
-localAt net w a v = getD (localUpTo net w a v) v false
+unfolding valueAt bools leafOwn
+localAt net w a v = valueAt bools (leafOwn w a) net v

@@ -45,7 +45,7 @@ fn read_call(random: &mut Random) -> Row {
     }
     let mut gates = lent_words(random, graph.gates.len());
     let mut outputs = lent_words(random, graph.outputs.len());
-    let arguments = vec![notation::list(&text), places(&gates), places(&outputs)];
+    let arguments = vec![notation::list(&text), notation::buffers(&gates, &outputs)];
     let result = read(&text, &mut gates, &mut outputs);
     let counts = result.map(|(inputs, gates, outputs)| [inputs, gates as u64, outputs as u64]);
     Row {
@@ -166,8 +166,7 @@ fn apply_call(random: &mut Random) -> Row {
     let mut arguments = notation::window(&graph, root, &leaves);
     arguments.extend([
         notation::proposal(&proposal),
-        places(&gates),
-        places(&outputs),
+        notation::buffers(&gates, &outputs),
     ]);
     let result = apply(&graph, root, &leaves, &proposal, &mut gates, &mut outputs);
     let counts = result.map(|(gates, outputs)| [gates as u64, outputs as u64]);
