@@ -84,18 +84,28 @@ pub fn any_window(random: &mut Random, make: Maker) -> (Graph, Var, Leaves) {
     (graph, root, leaves)
 }
 
-/// A listed replacement, the root's own fanins, or any within or against the rule.
+/// A listed replacement, one of the root's own gate or literal, or any within
+/// or against the rule. Where the window is refused, so is every proposal.
 pub fn any_proposal(random: &mut Random, graph: &Graph, root: Var, leaves: &Leaves) -> Proposal {
-    let fanins = graph.fanins(root).filter(|_| graph.is_well_formed());
-    let [high, low] = fanins.unwrap_or([Var(0).lit(false); 2]);
-    if window::check(graph, root, leaves).is_err() || random.once_in(6) {
-        return Proposal::pair(high, low, 0);
+    let constant = Proposal::single(Var(0).lit(false));
+    if window::check(graph, root, leaves).is_err() {
+        return constant;
     }
     let window = Window::new(graph, root, leaves);
-    let mut records = vec![Record::default(); 2000];
-    match list(graph, root, leaves, &mut records) {
-        Ok(found) if found > 0 && random.coin() => records[random.between(0, found - 1)].proposal(),
-        _ if random.coin() => proposals::good(random, &window),
-        _ => proposals::bad(random, &window),
+    let own = graph
+        .fanins(root)
+        .map(|[high, low]| Proposal::pair(high, low, 0));
+    match random.between(0, 7) {
+        0 => own.unwrap_or(constant),
+        1 => Proposal::single(root.lit(false)),
+        2 | 3 => proposals::bad(random, &window),
+        4 | 5 => proposals::good(random, &window),
+        _ => listed(random, graph, root, leaves).unwrap_or(constant),
     }
+}
+
+fn listed(random: &mut Random, graph: &Graph, root: Var, leaves: &Leaves) -> Option<Proposal> {
+    let mut records = vec![Record::default(); 2000];
+    let found = list(graph, root, leaves, &mut records).unwrap_or(0);
+    (found > 0).then(|| records[random.between(0, found - 1)].proposal())
 }
