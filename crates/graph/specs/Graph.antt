@@ -1,6 +1,6 @@
 -- A lent graph, and when it is well formed.
 -- Assumes nothing.
-use Prim.Native.Nat.{ℕ, suc, _+_, _-_, _*_, _/_, _%_, _≤_, _<_}
+use Prim.Native.Nat.{ℕ, suc, _+_, _-_, _*_, _/_, _%_, _≤_, _<_, max, min}
 use mathlib.Core.Path.{_≡_}
 use mathlib.Core.Bool.{Bool, _&&_}
 use mathlib.Core.List.{List, [], _∷_, map}
@@ -51,6 +51,10 @@ first net v = getD (net .gates) (2 * (v - suc (free net))) 0
 unfoldable pub second : Net → ℕ → ℕ
 second net v = getD (net .gates) (suc (2 * (v - suc (free net)))) 0
 
+-- the words of a gate over two literals: the larger first
+unfoldable pub largerFirst : ℕ → ℕ → List ℕ
+largerFirst a b = max a b ∷ min a b ∷ []
+
 -- a gate holds its larger literal first; each is below twice the gate's own variable
 unfoldable pub gateOk : Net → ℕ → Bool
 unfolding first second
@@ -60,6 +64,16 @@ gateOk net v = leb (second net v) (first net v) && ltb (first net v) (2 * v)
 unfoldable pub sinkOk : Net → ℕ → Bool
 sinkOk net l = leb l (2 * last net + 1)
 
+-- the limits
+abbrev pub mostInputs : ℕ
+mostInputs = 64
+
+abbrev pub mostOutputs : ℕ
+mostOutputs = 64
+
+abbrev pub mostGates : ℕ
+mostGates = 1024
+
 -- even length, the rules of gates and outputs, and the three limits
 unfoldable pub rules : Graph → List Bool
 unfolding allBelow gateOk all sinkOk
@@ -67,9 +81,9 @@ rules g =
     eqb (length (g .net .gates) % 2) 0
     ∷ allBelow (λ k. gateOk (g .net) (suc (free (g .net) + k))) (size (g .net))
     ∷ all (sinkOk (g .net)) (sinks g)
-    ∷ leb (g .net .inputs) 64
-    ∷ leb (length (g .outputs)) 64
-    ∷ leb (size (g .net)) 1024
+    ∷ leb (g .net .inputs) mostInputs
+    ∷ leb (length (g .outputs)) mostOutputs
+    ∷ leb (size (g .net)) mostGates
     ∷ []
 
 unfoldable pub wellFormed : Graph → Bool
@@ -90,6 +104,6 @@ pub record Lawful (g : Graph) : Type 0 where
 
 pub record WellFormed (g : Graph) : Type 0 where
   pub lawful : Lawful g
-  pub inputs-few : g .net .inputs ≤ 64
-  pub outputs-few : length (g .outputs) ≤ 64
-  pub gates-few : size (g .net) ≤ 1024
+  pub inputs-few : g .net .inputs ≤ mostInputs
+  pub outputs-few : length (g .outputs) ≤ mostOutputs
+  pub gates-few : size (g .net) ≤ mostGates

@@ -1,13 +1,13 @@
 -- What a proposal makes of the graph, and its gain.
 -- Assumes nothing.
-use Prim.Native.Nat.{ℕ, suc, _+_, _*_, max, min}
+use Prim.Native.Nat.{ℕ, suc, _+_, _*_}
 use mathlib.Core.Bool.{Bool, false, cond}
-use mathlib.Core.List.{List, [], _∷_}
+use mathlib.Core.List.{List}
 use lib.Dec.{ltb, eqb}
 use lib.IntN.{ℤ, pos, negsuc, subℕ}
 use Rattle.graph.specs.Lists.{gather}
 use Rattle.graph.specs.Literal.{varOf, flip}
-use Rattle.graph.specs.Graph.{Net, Graph, netOf, overNet, free, size, first, second}
+use Rattle.graph.specs.Graph.{Net, Graph, netOf, overNet, free, size, first, second, largerFirst}
 use Rattle.graph.specs.Use.{usedGates}
 use Rattle.graph.specs.Drop.{dropped}
 use Rattle.replace.specs.declared.Proposal.{Proposal}
@@ -21,19 +21,15 @@ unfoldable pub redirected : ℕ → Proposal → ℕ → ℕ
 unfolding standIn
 redirected root p l = cond (eqb (varOf l) root) (flip (standIn root p) l) l
 
--- fanins are put larger first
-unfoldable pub ordered : ℕ → ℕ → List ℕ
-ordered a b = max a b ∷ min a b ∷ []
-
 -- what stands at the root's place: in kind 0 its own gate, to which nothing refers any more; in kind 1 AND(first, second)
 unfoldable pub rootGates : Net → ℕ → Proposal → List ℕ
-unfolding ordered first second
-rootGates net root p = cond (eqb (p .kind) 0) (ordered (first net root) (second net root)) (ordered (p .first .0) (p .second .0))
+unfolding largerFirst first second
+rootGates net root p = cond (eqb (p .kind) 0) (largerFirst (first net root) (second net root)) (largerFirst (p .first .0) (p .second .0))
 
--- what stands for variable v's gate: a gate other than the root has its references redirected
+-- what stands for variable v's gate: a gate other than the root has its references redirected, and fanins are put larger first
 unfoldable pub rewiredGate : Net → ℕ → Proposal → ℕ → List ℕ
-unfolding rootGates ordered redirected first second
-rewiredGate net root p v = cond (eqb v root) (rootGates net root p) (ordered (redirected root p (first net v)) (redirected root p (second net v)))
+unfolding rootGates largerFirst redirected first second
+rewiredGate net root p v = cond (eqb v root) (rootGates net root p) (largerFirst (redirected root p (first net v)) (redirected root p (second net v)))
 
 unfoldable pub rewiredNet : Net → ℕ → Proposal → Net
 unfolding gather rewiredGate

@@ -47,10 +47,14 @@ noLeadingZero [] = false
 noLeadingZero (b ∷ []) = true
 noLeadingZero (b ∷ c ∷ bs) = not (eqb b (digit 0))
 
+-- the largest number
+abbrev pub mostNumber : ℕ
+mostNumber = 4294967295
+
 -- these digits are a number
 unfoldable pub isNumber : List ℕ → Bool
 unfolding noLeadingZero valueFrom
-isNumber bs = noLeadingZero bs && leb (valueFrom 0 bs) 4294967295
+isNumber bs = noLeadingZero bs && leb (valueFrom 0 bs) mostNumber
 
 -- the number at the front of a text, if one stands there
 unfoldable pub number : List ℕ → Option (Front ℕ)

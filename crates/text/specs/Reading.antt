@@ -1,6 +1,6 @@
 -- Reading any bytes whatever: the graph that they state, or the refusal that document 01's order selects.
 -- Assumes nothing.
-use Prim.Native.Nat.{ℕ, suc, _+_, _*_, max, min}
+use Prim.Native.Nat.{ℕ, suc, _+_, _*_}
 use mathlib.Core.Bool.{Bool, true, false, cond, not, _&&_, _||_}
 use mathlib.Core.List.{List, [], _∷_, _++_, map, flatMap}
 use mathlib.Core.Option.{Option, none, some}
@@ -10,7 +10,7 @@ use Rattle.graph.specs.declared.refusal.Refusal.{Refusal}
 use Rattle.graph.specs.declared.refusal.Refusal.the-variants.{BadHeader, TooLarge, Latches, BadCount, BadLine, BadLiteral}
 use Rattle.graph.specs.Lists.{gather}
 use Rattle.graph.specs.Refuse.{Row, _⇒_, firstRefusal}
-use Rattle.graph.specs.Graph.{Graph, graphOf}
+use Rattle.graph.specs.Graph.{Graph, graphOf, largerFirst, mostInputs, mostOutputs, mostGates}
 use Rattle.text.specs.Number.{Front}
 use Rattle.text.specs.Line.{after, lineOf}
 use Rattle.text.specs.States.{aag, skipped}
@@ -33,10 +33,14 @@ unfoldable pub headerLine : List ℕ → Option (Front (List ℕ))
 unfolding after lineOf
 headerLine t = elim (after aag t) [ none ↦ none | some t′ ↦ lineOf 5 t′ ]
 
+-- a text has at most so many bytes
+abbrev pub mostBytes : ℕ
+mostBytes = 65535
+
 -- a header or a text over the limits; latches; a count that does not add up
 unfoldable pub headerRefusals : List ℕ → Header → List Row
 headerRefusals t h =
-    (ltb 64 (h .inputs) || ltb 64 (h .outputs) || ltb 1024 (h .gates) || ltb 65535 (length t)) ⇒ TooLarge
+    (ltb mostInputs (h .inputs) || ltb mostOutputs (h .outputs) || ltb mostGates (h .gates) || ltb mostBytes (length t)) ⇒ TooLarge
     ∷ not (eqb (h .latches) 0) ⇒ Latches
     ∷ not (eqb (h .highest) (h .inputs + h .gates)) ⇒ BadCount
     ∷ []
@@ -90,9 +94,10 @@ readLines (need ∷ needs) t =
 
 -- ---- the graph
 
--- a gate's words: the larger right side first
+-- the words of a gate line: its right sides, the larger first
 unfoldable pub gateWords : List ℕ → List ℕ
-gateWords ns = max (getD ns 1 0) (getD ns 2 0) ∷ min (getD ns 1 0) (getD ns 2 0) ∷ []
+unfolding largerFirst
+gateWords ns = largerFirst (getD ns 1 0) (getD ns 2 0)
 
 -- the graph of the lines' numbers
 unfoldable pub graphRead : Header → List (List ℕ) → Graph
