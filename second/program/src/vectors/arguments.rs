@@ -12,6 +12,11 @@ pub fn wide(random: &mut Random) -> Graph {
     graphs::exact(random, size(16, 40))
 }
 
+/// Large enough that gates are left after a replacement.
+pub fn middling(random: &mut Random) -> Graph {
+    graphs::redundant(random, size(4, 14))
+}
+
 /// Small enough that the prover can try every candidate of a gate.
 pub fn small(random: &mut Random) -> Graph {
     graphs::redundant(random, size(3, 6))
@@ -95,11 +100,11 @@ pub fn any_proposal(random: &mut Random, graph: &Graph, root: Var, leaves: &Leav
     let own = graph
         .fanins(root)
         .map(|[high, low]| Proposal::pair(high, low, 0));
-    match random.between(0, 7) {
+    match random.between(0, 9) {
         0 => own.unwrap_or(constant),
         1 => Proposal::single(root.lit(false)),
         2 | 3 => proposals::bad(random, &window),
-        4 | 5 => proposals::good(random, &window),
+        4 => proposals::good(random, &window),
         _ => listed(random, graph, root, leaves).unwrap_or(constant),
     }
 }

@@ -1,7 +1,7 @@
 //! One sampler a call.
 
 use super::arguments::{any_graph, any_proposal, any_window, lent, lent_words};
-use super::arguments::{small, tiny, wide, UNWRITTEN};
+use super::arguments::{middling, small, tiny, wide, UNWRITTEN};
 use super::notation::{self, places};
 use super::Row;
 use model::{
@@ -20,7 +20,7 @@ pub const SAMPLERS: [(usize, Sampler); 8] = [
     (40, table_call),
     (20, list_call),
     (100, apply_call),
-    (20, run_call),
+    (40, run_call),
 ];
 
 /// 0 and the values, or the refusal's number.
@@ -159,7 +159,7 @@ fn list_call(random: &mut Random) -> Row {
 }
 
 fn apply_call(random: &mut Random) -> Row {
-    let (graph, root, leaves) = any_window(random, small);
+    let (graph, root, leaves) = any_window(random, middling);
     let proposal = any_proposal(random, &graph, root, &leaves);
     let mut gates = lent_words(random, graph.gates.len().saturating_sub(2));
     let mut outputs = lent_words(random, graph.outputs.len());
