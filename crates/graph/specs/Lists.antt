@@ -1,14 +1,19 @@
 -- Lists and tests that the definitions share.
 -- Assumes nothing.
-use Prim.Native.Nat.{ℕ, zero, suc}
+use Prim.Native.Nat.{ℕ, zero, suc, _-_}
 use mathlib.Core.Bool.{Bool, true, false, _&&_, _||_}
 use mathlib.Core.List.{List, [], _∷_, _++_}
 use lib.Dec.{eqb}
+use lib.ListN.{length, replicate}
 
 -- the pieces f 0, f 1, .. f (n - 1), joined
 unfoldable pub gather : {A : Type 0} → (ℕ → List A) → ℕ → List A
 gather f zero = []
 gather f (suc n) = gather f n ++ f n
+
+-- n places: these numbers, and 0 in the places beyond them
+unfoldable pub filled : ℕ → List ℕ → List ℕ
+filled n xs = xs ++ replicate (n - length xs) 0
 
 -- each test of the list passes
 unfoldable pub every : List Bool → Bool

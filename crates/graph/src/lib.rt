@@ -1,8 +1,9 @@
-// What a graph is and means: literals and variables, and what a call answers where it refuses.
+// What a graph is and means: literals and variables, evaluating, and why a call refuses.
+mod evaluate;
 mod lit;
 mod refusal;
 
+pub use evaluate::Evaluated;
 pub use lit::Lit;
 pub use lit::Var;
-pub use refusal::Evaluated;
 pub use refusal::Refusal;

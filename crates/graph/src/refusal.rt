@@ -17,9 +17,3 @@ pub enum Refusal {
     OrderLost,
     NoRoom,
 }
-
-// What evaluating a graph answers: how many output values were written, or why none was.
-pub enum Evaluated {
-    Outputs(usize),
-    Refused(Refusal),
-}

@@ -1,11 +1,12 @@
 -- The run as a call: the refusals in order, the answer, and its four lent lists afterwards.
 -- Assumes nothing.
-use Prim.Native.Nat.{ℕ, _-_}
+use Prim.Native.Nat.{ℕ}
 use mathlib.Core.Bool.{not, _||_}
-use mathlib.Core.List.{List, [], _∷_, _++_}
+use mathlib.Core.List.{List, [], _∷_}
 use mathlib.Core.Option.{none, some}
-use lib.ListN.{length, replicate}
+use lib.ListN.{length}
 use Rattle.graph.specs.declared.refusal.Refusal.the-variants.{BadGraph, NoRoom}
+use Rattle.graph.specs.Lists.{filled}
 use Rattle.graph.specs.Lent.{Buffers, noRoomFor, storedIn, Effect, _leaving_}
 use Rattle.graph.specs.Refuse.{Row, _⇒_, firstRefusal, Outcome, accepted, refused, numberOf}
 use Rattle.graph.specs.Graph.{Graph, size, wellFormed}
@@ -21,10 +22,6 @@ pub record RunBuffers : Type 0 where
 unfoldable pub runRefusals : Graph → RunBuffers → List Row
 unfolding wellFormed noRoomFor
 runRefusals g b = not (wellFormed g) ⇒ BadGraph ∷ (noRoomFor g (b .result) || noRoomFor g (b .work)) ⇒ NoRoom ∷ []
-
--- n needed words: these, and 0 in the places beyond them
-unfoldable pub filled : ℕ → List ℕ → List ℕ
-filled n xs = xs ++ replicate (n - length xs) 0
 
 -- the needed words of the source graph g written: gates and outputs, and 0 beyond them
 unfoldable pub filledIn : Graph → List ℕ → List ℕ → Buffers → Buffers

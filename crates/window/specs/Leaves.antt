@@ -1,12 +1,12 @@
 -- Leaf sets, and when one is well set down under a root.
 -- Assumes nothing.
-use Prim.Native.Nat.{ℕ, suc, _-_}
+use Prim.Native.Nat.{ℕ, suc}
 use mathlib.Core.Bool.{Bool, true, cond, _&&_}
-use mathlib.Core.List.{List, [], _∷_, _++_}
+use mathlib.Core.List.{List, [], _∷_}
 use mathlib.Core.Option.{Option, none, some}
 use lib.Dec.{leb, ltb, eqb}
-use lib.ListN.{length, take, drop, replicate}
-use Rattle.graph.specs.Lists.{every, all}
+use lib.ListN.{length, take, drop}
+use Rattle.graph.specs.Lists.{filled, every, all}
 use Rattle.window.specs.declared.Leaves.{Leaves}
 
 -- a leaf set has six places
@@ -19,7 +19,8 @@ leafList w = take (w .count) (w .places)
 
 -- the leaf set that has these leaves: unused places are 0
 unfoldable pub leavesOf : List ℕ → Leaves
-leavesOf xs = record { count = length xs; places = xs ++ replicate (leafLimit - length xs) 0 }
+unfolding filled
+leavesOf xs = record { count = length xs; places = filled leafLimit xs }
 
 -- each number is above the one before it, and the first above x
 unfoldable pub ascendsFrom : ℕ → List ℕ → Bool

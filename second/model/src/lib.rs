@@ -1,4 +1,5 @@
-//! The second implementation of document 01, written from its text alone.
+//! The second implementation of document 01, written from its text and from
+//! the readings of its open points, and from nothing of the proved crates.
 //! Every call is a plain function over lent slices. A refusal writes nothing,
 //! and places past the need keep their contents.
 

@@ -1,31 +1,22 @@
 //! The leaf rule against its restatement over plain sets.
 
-use crate::naive;
-use model::pick_leaves;
+use crate::{naive, roots};
+use model::{pick_leaves, Graph, Var};
 use samples::{graphs, windows, Random};
+
+fn assert_restated(_: &mut Random, graph: &Graph, root: Var) {
+    let (expected, _) = naive::leaf_rule(graph, root);
+    assert_eq!(pick_leaves(graph, root), Ok(expected));
+}
 
 #[test]
 fn the_rule_picks_what_its_restatement_picks() {
-    let mut random = Random::new(31);
-    for _ in 0..3000 {
-        let graph = graphs::any(&mut random);
-        if let Some(root) = windows::good_root(&mut random, &graph) {
-            let (expected, _) = naive::leaf_rule(&graph, root);
-            assert_eq!(pick_leaves(&graph, root), Ok(expected));
-        }
-    }
+    roots::each(31, 3000, graphs::any, assert_restated);
 }
 
 #[test]
 fn the_rule_picks_the_same_in_big_graphs() {
-    let mut random = Random::new(32);
-    for _ in 0..100 {
-        let graph = graphs::big(&mut random);
-        if let Some(root) = windows::good_root(&mut random, &graph) {
-            let (expected, _) = naive::leaf_rule(&graph, root);
-            assert_eq!(pick_leaves(&graph, root), Ok(expected));
-        }
-    }
+    roots::each(32, 100, graphs::big, assert_restated);
 }
 
 #[test]

@@ -1,6 +1,6 @@
 //! Lists against every proposal judged by applying it.
 
-use crate::naive;
+use crate::{naive, roots};
 use model::replace::gain;
 use model::{apply, list, pick_leaves, Graph, Leaves, ListRefusal, Record, Var};
 use samples::{graphs, windows, Random};
@@ -50,49 +50,38 @@ fn the_list_under_the_rule_is_what_applying_takes() {
 
 #[test]
 fn the_list_of_any_cut_is_what_applying_takes() {
-    let mut random = Random::new(62);
-    for _ in 0..1000 {
-        let graph = graphs::small(&mut random);
-        if let Some(root) = windows::good_root(&mut random, &graph) {
-            let leaves = windows::cut(&mut random, &graph, root);
-            let expected = by_applying(&graph, root, &leaves);
-            assert_eq!(listed(&graph, root, &leaves), expected);
-        }
-    }
+    roots::each(62, 1000, graphs::small, |random, graph, root| {
+        let leaves = windows::cut(random, graph, root);
+        let expected = by_applying(graph, root, &leaves);
+        assert_eq!(listed(graph, root, &leaves), expected);
+    });
 }
 
 #[test]
 fn lists_ascend_strictly() {
-    let mut random = Random::new(63);
+    let draw = |random: &mut Random| graphs::redundant(random, graphs::MID);
     let mut longest = 0;
-    for _ in 0..300 {
-        let graph = graphs::redundant(&mut random, graphs::MID);
-        if let Some(root) = windows::good_root(&mut random, &graph) {
-            let leaves = pick_leaves(&graph, root).unwrap();
-            let records = listed(&graph, root, &leaves);
-            assert!(records
-                .windows(2)
-                .all(|two| place(&two[0]) < place(&two[1])));
-            assert!(records.iter().all(|record| record.gain >= 1));
-            longest = longest.max(records.len());
-        }
-    }
+    roots::each(63, 300, draw, |_, graph, root| {
+        let leaves = pick_leaves(graph, root).unwrap();
+        let records = listed(graph, root, &leaves);
+        let ascends = |two: &[Record]| place(&two[0]) < place(&two[1]);
+        assert!(records.windows(2).all(ascends));
+        assert!(records.iter().all(|record| record.gain >= 1));
+        longest = longest.max(records.len());
+    });
     assert!(longest > 20, "{longest}");
 }
 
 #[test]
 fn gains_in_big_graphs_are_taken_over_the_two_graphs() {
-    let mut random = Random::new(64);
+    let draw = |random: &mut Random| graphs::redundant(random, graphs::BIG);
     let mut compared = 0;
-    for _ in 0..100 {
-        let graph = graphs::redundant(&mut random, graphs::BIG);
-        if let Some(root) = windows::good_root(&mut random, &graph) {
-            let leaves = pick_leaves(&graph, root).unwrap();
-            for record in listed(&graph, root, &leaves).iter().take(100) {
-                assert_eq!(record.gain, gain(&graph, root, &record.proposal()));
-                compared += 1;
-            }
+    roots::each(64, 100, draw, |_, graph, root| {
+        let leaves = pick_leaves(graph, root).unwrap();
+        for record in listed(graph, root, &leaves).iter().take(100) {
+            assert_eq!(record.gain, gain(graph, root, &record.proposal()));
+            compared += 1;
         }
-    }
+    });
     assert!(compared > 100, "{compared}");
 }

@@ -5,6 +5,7 @@ mod leaf_rule;
 mod lists;
 mod naive;
 mod refusing;
+mod roots;
 mod runs;
 mod sample_graphs;
 mod tables;
