@@ -1,18 +1,20 @@
 -- Evaluating a graph under an assignment of its inputs.
 -- Assumes nothing.
-use Prim.Native.Nat.{ℕ, _-_}
+use Prim.Native.Nat.{ℕ, _-_, _≤_, _<_}
+use mathlib.Core.Path.{_≡_}
 use mathlib.Core.Bool.{Bool, cond, not, _&&_}
 use mathlib.Core.List.{List, [], _∷_, map}
 use mathlib.Core.Option.{Option, none, some}
 use lib.Dec.{leb, eqb}
 use lib.ListN.{length, getD}
+use Rattle.graph.specs.declared.refusal.Refusal.{Refusal}
 use Rattle.graph.specs.declared.refusal.Refusal.the-variants.{BadGraph, BadAssignment, NoRoom}
 use Rattle.graph.specs.declared.evaluate.Evaluated.{Evaluated}
 use Rattle.graph.specs.declared.evaluate.Evaluated.the-variants.{Outputs, Refused}
 use Rattle.graph.specs.Lists.{all}
 use Rattle.graph.specs.Lent.{short, written, Effect, _leaving_}
 use Rattle.graph.specs.Refuse.{Row, _⇒_, firstRefusal, Outcome, accepted, refused, numberOf}
-use Rattle.graph.specs.Graph.{Net, Graph, free, last, sinks, wellFormed}
+use Rattle.graph.specs.Graph.{Net, Graph, free, last, sinks, wellFormed, WellFormed}
 use Rattle.graph.specs.Sweep.{bools, litValue, values}
 
 -- an input has the value that the assignment gives it, a gate none of its own
@@ -39,6 +41,16 @@ assignmentOf vs v = eqb (getD vs (v - 1) 0) 1
 unfoldable pub isAssignment : Net → List ℕ → Bool
 unfolding all
 isAssignment net vs = eqb (length vs) (free net) && all (λ x. leb x 1) vs
+
+pub record Assignment (net : Net) (vs : List ℕ) : Type 0 where
+  pub count : length vs ≡ free net
+  pub each : (j : ℕ) → j < length vs → getD vs j 0 ≤ 1
+
+-- when evaluating is refused
+pub data EvaluateGiven (g : Graph) (vs lent : List ℕ) : Refusal → Type 0 where
+  bad-graph : ¬ WellFormed g → EvaluateGiven g vs lent BadGraph
+  bad-assignment : ¬ Assignment (g .net) vs → EvaluateGiven g vs lent BadAssignment
+  no-room : length lent < length (sinks g) → EvaluateGiven g vs lent NoRoom
 
 unfoldable pub evaluateRefusals : Graph → List ℕ → List ℕ → List Row
 unfolding wellFormed isAssignment short

@@ -1,6 +1,6 @@
 -- Lent lists: the room that a call needs, and what it leaves behind.
 -- Assumes nothing.
-use Prim.Native.Nat.{ℕ}
+use Prim.Native.Nat.{ℕ, _<_}
 use mathlib.Core.Bool.{Bool, _||_}
 use mathlib.Core.List.{List, _++_}
 use lib.Dec.{ltb}
@@ -24,6 +24,10 @@ pub record Buffers : Type 0 where
 unfoldable pub noRoomFor : Graph → Buffers → Bool
 unfolding short
 noRoomFor g b = short (length (g .net .gates)) (b .gates) || short (length (g .outputs)) (b .outputs)
+
+pub data NoRoomFor (g : Graph) (b : Buffers) : Type 0 where
+  few-gate-words : length (b .gates) < length (g .net .gates) → NoRoomFor g b
+  few-output-words : length (b .outputs) < length (g .outputs) → NoRoomFor g b
 
 -- the two lists with these words written
 unfoldable pub storedIn : List ℕ → List ℕ → Buffers → Buffers

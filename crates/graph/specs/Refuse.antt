@@ -1,6 +1,6 @@
 -- What comes back: the refusals by name and number, and which one is given.
 -- Assumes nothing.
-use Prim.Native.Nat.{ℕ}
+use Prim.Native.Nat.{ℕ, _<_}
 use mathlib.Core.Bool.{Bool, cond}
 use mathlib.Core.List.{List, [], _∷_}
 use mathlib.Core.Option.{Option, none, some}
@@ -68,3 +68,8 @@ accepted xs = record { number = 0; values = xs }
 -- a refusal returns its number alone
 abbrev pub refused : Refusal → Outcome
 refused r = record { number = numberOf r; values = [] }
+
+-- of the refusals that are given for something, the one with the lowest number
+pub record Lowest (given : Refusal → Type 0) (r : Refusal) : Type 0 where
+  pub holds : given r
+  pub none-lower : (q : Refusal) → numberOf q < numberOf r → ¬ given q

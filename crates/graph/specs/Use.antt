@@ -1,12 +1,23 @@
--- The gates in use, and their number R.
+-- The gates in use, and their number R: what it means to be reached, and how marks find it.
 -- Assumes nothing.
-use Prim.Native.Nat.{ℕ, zero, suc, _+_}
+use Prim.Native.Nat.{ℕ, zero, suc, _+_, _<_}
 use mathlib.Core.Bool.{Bool, true, false, cond, _&&_}
 use mathlib.Core.List.{List, [], _∷_}
 use lib.Dec.{ltb, leb}
-use lib.ListN.{getD, set, replicate}
+use lib.ListN.{length, getD, set, replicate}
 use Rattle.graph.specs.Literal.{varOf}
-use Rattle.graph.specs.Graph.{Net, Graph, free, size, last, sinks, first, second}
+use Rattle.graph.specs.Graph.{Net, Graph, free, size, last, sinks, first, second, IsGate}
+
+-- an output's variable is reached, and so is a fanin variable of a reached gate
+pub data Reached (g : Graph) : ℕ → Type 0 where
+  as-output : (j : ℕ) → j < length (sinks g) → Reached g (varOf (getD (sinks g) j 0))
+  as-first : {v : ℕ} → IsGate (g .net) v → Reached g v → Reached g (varOf (first (g .net) v))
+  as-second : {v : ℕ} → IsGate (g .net) v → Reached g v → Reached g (varOf (second (g .net) v))
+
+-- a gate is in use if some output reaches it through fanins
+pub record InUse (g : Graph) (v : ℕ) : Type 0 where
+  pub is-gate : IsGate (g .net) v
+  pub is-reached : Reached g v
 
 -- the variables of these literals are marked
 unfoldable pub markEach : List ℕ → List Bool → List Bool
@@ -24,7 +35,7 @@ unfolding markFanins
 markDown net zero ms = ms
 markDown net (suc k) ms = markDown net k (markFanins net (suc (free net + k)) ms)
 
--- a gate is in use if some output reaches it through fanins: outputs are marked first, then fanins from the highest gate down
+-- outputs are marked first, then fanins from the highest gate down: fanins are lower, so one pass is enough
 unfoldable pub marks : Graph → List Bool
 unfolding markEach markDown
 marks g = markDown (g .net) (size (g .net)) (markEach (sinks g) (replicate (suc (last (g .net))) false))
