@@ -4,16 +4,17 @@ use Prim.Native.Nat.{ℕ}
 use mathlib.Core.Bool.{not}
 use mathlib.Core.List.{List, [], _∷_, _++_}
 use mathlib.Core.Option.{none, some}
+use Rattle.graph.specs.declared.refusal.Refusal.{Refusal}
 use Rattle.graph.specs.declared.refusal.Refusal.the-variants.{BadGraph, BadRoot, BadLeaves, NotACut}
 use Rattle.graph.specs.Refuse.{Row, _⇒_, firstRefusal, Outcome, accepted, refused, numberOf}
-use Rattle.graph.specs.Graph.{Graph, wellFormed}
-use Rattle.graph.specs.Use.{inUse}
+use Rattle.graph.specs.Graph.{Graph, wellFormed, WellFormed}
+use Rattle.graph.specs.Use.{inUse, InUse}
 use Rattle.window.specs.declared.Leaves.{Leaves}
 use Rattle.window.specs.declared.Verdict.{Verdict}
 use Rattle.window.specs.declared.Picked.{Picked}
 use Rattle.window.specs.declared.RootTable.{RootTable}
-use Rattle.window.specs.Leaves.{leavesOf, wellSet}
-use Rattle.window.specs.Local.{covered}
+use Rattle.window.specs.Leaves.{leavesOf, wellSet, WellSet}
+use Rattle.window.specs.Local.{covered, Covered}
 use Rattle.window.specs.Table.{table}
 use Rattle.window.specs.LeafRule.{picked}
 
@@ -23,6 +24,11 @@ use Rattle.window.specs.LeafRule.{picked}
 unfoldable pub rootRefusals : Graph → ℕ → List Row
 unfolding wellFormed inUse
 rootRefusals g root = not (wellFormed g) ⇒ BadGraph ∷ not (inUse g root) ⇒ BadRoot ∷ []
+
+-- when picking leaves is refused
+pub data RootGiven (g : Graph) (root : ℕ) : Refusal → Type 0 where
+  bad-graph : ¬ WellFormed g → RootGiven g root BadGraph
+  bad-root : ¬ InUse g root → RootGiven g root BadRoot
 
 unfoldable pub pickAnswer : Graph → ℕ → Picked
 unfolding rootRefusals firstRefusal picked leavesOf
@@ -47,6 +53,12 @@ pickOutcome p = verdictOutcome (p .verdict) (p .leaves)
 unfoldable pub windowRefusals : Graph → ℕ → Leaves → List Row
 unfolding rootRefusals wellSet covered
 windowRefusals g root w = rootRefusals g root ++ (not (wellSet root w) ⇒ BadLeaves ∷ not (covered (g .net) w root) ⇒ NotACut ∷ [])
+
+-- when a call on a window is refused
+pub data WindowGiven (g : Graph) (root : ℕ) (w : Leaves) : Refusal → Type 0 where
+  by-root : {r : Refusal} → RootGiven g root r → WindowGiven g root w r
+  bad-leaves : ¬ WellSet root w → WindowGiven g root w BadLeaves
+  not-a-cut : ¬ Covered (g .net) w root → WindowGiven g root w NotACut
 
 unfoldable pub tableAnswer : Graph → ℕ → Leaves → RootTable
 unfolding windowRefusals firstRefusal table

@@ -1,11 +1,12 @@
 -- Leaf sets, and when one is well set down under a root.
 -- Assumes nothing.
-use Prim.Native.Nat.{ℕ, suc}
+use Prim.Native.Nat.{ℕ, suc, _≤_, _<_}
+use mathlib.Core.Path.{_≡_}
 use mathlib.Core.Bool.{Bool, true, cond, _&&_}
 use mathlib.Core.List.{List, [], _∷_}
 use mathlib.Core.Option.{Option, none, some}
 use lib.Dec.{leb, ltb, eqb}
-use lib.ListN.{length, take, drop}
+use lib.ListN.{length, getD, take, drop}
 use Rattle.graph.specs.Lists.{filled, every, all}
 use Rattle.window.specs.declared.Leaves.{Leaves}
 
@@ -40,6 +41,13 @@ leafRules root w =
 unfoldable pub wellSet : ℕ → Leaves → Bool
 unfolding every leafRules
 wellSet root w = every (leafRules root w)
+
+-- the same as facts
+pub record WellSet (root : ℕ) (w : Leaves) : Type 0 where
+  pub few : w .count ≤ leafLimit
+  pub ascending : ascendsFrom 0 (leafList w) ≡ true
+  pub below-root : (j : ℕ) → j < length (leafList w) → getD (leafList w) j 0 < root
+  pub unused-zero : (j : ℕ) → w .count ≤ j → getD (w .places) j 0 ≡ 0
 
 -- the place at which v stands in the list, where the list starts at place j
 unfoldable pub placeFrom : ℕ → List ℕ → ℕ → Option ℕ

@@ -1,14 +1,23 @@
 -- Covered variables, and their local functions of the leaves.
 -- Assumes nothing.
-use Prim.Native.Nat.{ℕ}
+use Prim.Native.Nat.{ℕ, _<_}
+use mathlib.Core.Path.{_≡_}
 use mathlib.Core.Bool.{Bool, true, false, cond, _&&_}
 use mathlib.Core.List.{List}
 use mathlib.Core.Option.{Option, none, some, Option·map}
 use lib.Dec.{leb}
-use Rattle.graph.specs.Graph.{Net, free}
+use lib.ListN.{length, getD}
+use Rattle.graph.specs.Literal.{varOf}
+use Rattle.graph.specs.Graph.{Net, free, first, second, IsGate}
 use Rattle.graph.specs.Sweep.{Kind, bools, values, valueAt}
 use Rattle.window.specs.declared.Leaves.{Leaves}
-use Rattle.window.specs.Leaves.{leafPlace}
+use Rattle.window.specs.Leaves.{leafList, leafPlace}
+
+-- covered: variable 0, each leaf, and each gate whose two fanin variables are covered
+pub data Covered (net : Net) (w : Leaves) : ℕ → Type 0 where
+  zero-is : Covered net w 0
+  leaf-is : (j : ℕ) → j < length (leafList w) → Covered net w (getD (leafList w) j 0)
+  gate-is : {v : ℕ} → IsGate net v → Covered net w (varOf (first net v)) → Covered net w (varOf (second net v)) → Covered net w v
 
 -- a kind of value in which only coverage counts: variable 0 is covered, and a gate is if both its fanin variables are
 unfoldable pub coverage : Kind Bool
