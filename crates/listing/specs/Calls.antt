@@ -1,19 +1,25 @@
 -- Listing as a call: the refusals in order, the answer, and the lent records afterwards.
 -- Assumes nothing.
-use Prim.Native.Nat.{ℕ}
+use Prim.Native.Nat.{ℕ, _<_}
 use mathlib.Core.Bool.{cond}
 use mathlib.Core.List.{List, [], _∷_}
 use mathlib.Core.Option.{none, some}
 use lib.ListN.{length}
+use Rattle.graph.specs.declared.refusal.Refusal.{Refusal}
 use Rattle.graph.specs.declared.refusal.Refusal.the-variants.{NoRoom}
 use Rattle.graph.specs.Lent.{short, written, Effect, _leaving_}
 use Rattle.graph.specs.Refuse.{firstRefusal, Outcome, accepted, refused, numberOf}
 use Rattle.graph.specs.Graph.{Graph}
 use Rattle.window.specs.declared.Leaves.{Leaves}
-use Rattle.window.specs.Calls.{windowRefusals}
+use Rattle.window.specs.Calls.{windowRefusals, WindowGiven}
 use Rattle.listing.specs.declared.Candidate.{Candidate}
 use Rattle.listing.specs.declared.Listed.{Listed}
 use Rattle.listing.specs.Listing.{listed}
+
+-- when listing is refused
+pub data ListGiven (g : Graph) (root : ℕ) (w : Leaves) (lent : List Candidate) : Refusal → Type 0 where
+  by-window : {r : Refusal} → WindowGiven g root w r → ListGiven g root w lent r
+  no-room : length lent < length (listed g root w) → ListGiven g root w lent NoRoom
 
 -- NO ROOM also returns the record count needed
 unfoldable pub withList : List Candidate → List Candidate → Effect Listed (List Candidate)

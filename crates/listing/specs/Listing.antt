@@ -1,14 +1,17 @@
 -- All candidates in order, and the list of the good ones.
 -- Assumes nothing.
-use Prim.Native.Nat.{ℕ, _*_}
-use mathlib.Core.Bool.{Bool, _&&_}
+use Prim.Native.Nat.{ℕ, _*_, _≤_, _<_}
+use mathlib.Core.Path.{_≡_}
+use mathlib.Core.Bool.{Bool, true, _&&_}
 use mathlib.Core.List.{List, [], _∷_, _++_, map}
-use lib.IntN.{natAbs}
-use Rattle.graph.specs.Lists.{gather, keep}
+use mathlib.Core.Logic.{_↔_}
+use lib.IntN.{pos, natAbs}
+use Rattle.graph.specs.Lists.{gather, keep, _∈_}
 use Rattle.graph.specs.Graph.{Graph}
 use Rattle.window.specs.declared.Leaves.{Leaves}
 use Rattle.replace.specs.declared.Proposal.{Proposal}
-use Rattle.replace.specs.Proposal.{literal, andGate, allowed}
+use Rattle.window.specs.Table.{table}
+use Rattle.replace.specs.Proposal.{literal, andGate, allowed, proposedTable}
 use Rattle.replace.specs.Rewire.{gain, atLeastOne}
 use Rattle.replace.specs.Calls.{equalTables}
 use Rattle.listing.specs.declared.Candidate.{Candidate}
@@ -44,3 +47,29 @@ proposalOf x = record { kind = x .kind; first = record { 0 = x .first }; second 
 unfoldable pub fields : List Candidate → List ℕ
 fields [] = []
 fields (x ∷ xs) = x .kind ∷ x .first ∷ x .second ∷ x .turned ∷ x .gain ∷ fields xs
+
+-- ---- what the list must be
+
+-- a good replacement with its gain
+pub record GoodRecord (g : Graph) (root : ℕ) (w : Leaves) (x : Candidate) : Type 0 where
+  pub keeps-rule : allowed (g .net) root w (proposalOf x) ≡ true
+  pub equals : proposedTable (g .net) root w (proposalOf x) ≡ table (g .net) w root
+  pub gain-is : gain g root (proposalOf x) ≡ pos (x .gain)
+  pub at-least-one : 1 ≤ x .gain
+
+-- the order: kind 0 by literal, then kind 1 by (a, b, c)
+pub data Before (x y : Candidate) : Type 0 where
+  by-kind : x .kind < y .kind → Before x y
+  by-first : x .kind ≡ y .kind → x .first < y .first → Before x y
+  by-second : x .kind ≡ y .kind → x .first ≡ y .first → x .second < y .second → Before x y
+  by-turned : x .kind ≡ y .kind → x .first ≡ y .first → x .second ≡ y .second → x .turned < y .turned → Before x y
+
+-- each record stands before all that follow it; so none is repeated
+pub data Ascending : List Candidate → Type 0 where
+  none-left : Ascending []
+  then-more : {x : Candidate} {xs : List Candidate} → ((y : Candidate) → y ∈ xs → Before x y) → Ascending xs → Ascending (x ∷ xs)
+
+-- xs holds every good replacement, nothing else, each once, in order
+pub record IsTheList (g : Graph) (root : ℕ) (w : Leaves) (xs : List Candidate) : Type 0 where
+  pub holds : (x : Candidate) → (x ∈ xs) ↔ GoodRecord g root w x
+  pub ascends : Ascending xs

@@ -1,7 +1,8 @@
 -- A proposal: its rule, its local value and its table, each by kind.
 -- Assumes nothing.
-use Prim.Native.Nat.{ℕ}
-use mathlib.Core.Bool.{Bool, false, cond, _&&_}
+use Prim.Native.Nat.{ℕ, _≤_, _<_}
+use mathlib.Core.Path.{_≡_}
+use mathlib.Core.Bool.{Bool, true, false, cond, _&&_}
 use mathlib.Core.List.{List, [], _∷_}
 use lib.Dec.{leb, ltb, eqb}
 use Rattle.graph.specs.Lists.{every}
@@ -45,6 +46,21 @@ unfoldable pub allowed : Net → ℕ → Leaves → Proposal → Bool
 unfolding every literalRules andRules
 allowed net root w p =
     cond (eqb (p .kind) 0) (every (literalRules net root w p)) (cond (eqb (p .kind) 1) (every (andRules net root w p)) false)
+
+-- the same as facts
+pub record Divides (net : Net) (root : ℕ) (w : Leaves) (l : ℕ) : Type 0 where
+  pub below-root : varOf l < root
+  pub is-covered : covered net w (varOf l) ≡ true
+
+pub data Allowed (net : Net) (root : ℕ) (w : Leaves) (p : Proposal) : Type 0 where
+  a-literal : p .kind ≡ 0 → Divides net root w (p .first .0) → p .second .0 ≡ 0 → p .turned ≡ 0 → Allowed net root w p
+  an-and : p .kind ≡ 1
+      → Divides net root w (p .first .0)
+      → Divides net root w (p .second .0)
+      → 0 < varOf (p .second .0)
+      → varOf (p .second .0) < varOf (p .first .0)
+      → p .turned ≤ 1
+      → Allowed net root w p
 
 -- the proposal's value over any kind of value, where vs has the values of the variables below the root
 unfoldable pub proposedValue : {A : Type 0} → Kind A → List A → Proposal → A

@@ -5,11 +5,12 @@ use mathlib.Core.Bool.{not, _||_}
 use mathlib.Core.List.{List, [], _∷_}
 use mathlib.Core.Option.{none, some}
 use lib.ListN.{length}
+use Rattle.graph.specs.declared.refusal.Refusal.{Refusal}
 use Rattle.graph.specs.declared.refusal.Refusal.the-variants.{BadGraph, NoRoom}
 use Rattle.graph.specs.Lists.{filled}
-use Rattle.graph.specs.Lent.{Buffers, noRoomFor, storedIn, Effect, _leaving_}
+use Rattle.graph.specs.Lent.{Buffers, noRoomFor, NoRoomFor, storedIn, Effect, _leaving_}
 use Rattle.graph.specs.Refuse.{Row, _⇒_, firstRefusal, Outcome, accepted, refused, numberOf}
-use Rattle.graph.specs.Graph.{Graph, size, wellFormed}
+use Rattle.graph.specs.Graph.{Graph, size, wellFormed, WellFormed}
 use Rattle.run.specs.declared.Ran.{Ran}
 use Rattle.run.specs.Run.{run}
 
@@ -17,6 +18,12 @@ use Rattle.run.specs.Run.{run}
 pub record RunBuffers : Type 0 where
   pub result : Buffers
   pub work : Buffers
+
+-- when a run is refused
+pub data RunGiven (g : Graph) (b : RunBuffers) : Refusal → Type 0 where
+  bad-graph : ¬ WellFormed g → RunGiven g b BadGraph
+  no-room-for-result : NoRoomFor g (b .result) → RunGiven g b NoRoom
+  no-room-for-work : NoRoomFor g (b .work) → RunGiven g b NoRoom
 
 -- the room is that of the source graph, in the result and in the work area alike
 unfoldable pub runRefusals : Graph → RunBuffers → List Row
