@@ -1,16 +1,16 @@
 -- What a test over a list or over the numbers below n says of each of them, and the other way round.
 -- Assumes nothing.
-use mathlib.Core.Path.{_≡_, refl, ap, _∙_}
-use mathlib.Core.Bool.{Bool, true, false, _&&_, false≢true}
-use mathlib.Core.List.{List, [], _∷_}
+use mathlib.Core.Path.{_≡_, refl, sym, ap, ap₂, _∙_}
+use mathlib.Core.Bool.{Bool, true, false, cond, _&&_, false≢true}
+use mathlib.Core.List.{List, [], _∷_, _++_, map}
 use mathlib.Core.Logic.{_⊎_, inl, inr, ⊎-elim}
 use Prim.Native.Nat.{ℕ, zero, suc, _≤_, _<_}
 use native.Mathlib.Nat.{le-of-suc-le-suc, not-suc-le-zero, le-refl, zero-lt-suc}
 use native.Mathlib.Omega.{arith}
-use borrow.Author.Tests.{leb-true, leb-false}
-use lib.Dec.{leb}
+use borrow.Author.Tests.{leb-true, leb-false, eqb-true, eqb-false}
+use lib.Dec.{leb, eqb}
 use lib.ListN.{length, getD}
-use Rattle.graph.specs.Lists.{every, allBelow, all}
+use Rattle.graph.specs.Lists.{every, allBelow, all, keep}
 
 pub at-most-or-above : (a b : ℕ) → (a ≤ b) ⊎ (b < a)
 at-most-or-above a b = go (leb a b) refl
@@ -18,6 +18,23 @@ at-most-or-above a b = go (leb a b) refl
     go : (t : Bool) → leb a b ≡ t → (a ≤ b) ⊎ (b < a)
     go true e = inl (leb-true a b e)
     go false e = inr (leb-false a b e)
+
+pub equal-or-not : (a b : ℕ) → (a ≡ b) ⊎ (¬ (a ≡ b))
+equal-or-not a b = go (eqb a b) refl
+  where
+    go : (t : Bool) → eqb a b ≡ t → (a ≡ b) ⊎ (¬ (a ≡ b))
+    go true e = inl (eqb-true a b e)
+    go false e = inr (eqb-false a b e)
+
+pub true-or-false : (b : Bool) → (b ≡ true) ⊎ (b ≡ false)
+true-or-false true = inl refl
+true-or-false false = inr refl
+
+-- two tests are the same if each passes where the other does
+pub same-tests : (a b : Bool) → (a ≡ true → b ≡ true) → (b ≡ true → a ≡ true) → a ≡ b
+same-tests true b f h = sym (f refl)
+same-tests false true f h = h refl
+same-tests false false f h = refl
 
 pub and-left : (a b : Bool) → a && b ≡ true → a ≡ true
 and-left true b e = refl
@@ -73,3 +90,29 @@ module _ {A : Type 0} (f : A → Bool) (d : A) where
   unfolding all
   all-of [] h = refl
   all-of (x ∷ xs) h = and-both (f x) (all f xs) (h 0 (zero-lt-suc (length xs))) (all-of xs (λ j l. h (suc j) (omega arith)))
+
+-- two functions that agree on the elements give the same list
+pub map-same : {A B : Type 0} (f h : A → B) (d : A) (xs : List A) → ((j : ℕ) → j < length xs → f (getD xs j d) ≡ h (getD xs j d)) → map f xs ≡ map h xs
+map-same f h d [] e = refl
+map-same f h d (x ∷ xs) e = ap₂ _∷_ (e 0 (zero-lt-suc (length xs))) (map-same f h d xs (λ j l. e (suc j) (omega arith)))
+
+-- ---- the elements at which a test passes
+
+module _ {A : Type 0} (f : A → Bool) where
+  pub keep-append : (xs ys : List A) → keep f (xs ++ ys) ≡ keep f xs ++ keep f ys
+  unfolding keep
+  keep-append [] ys = refl
+  keep-append (x ∷ xs) ys = go (f x) (keep-append xs ys)
+    where
+      go : (b : Bool) → keep f (xs ++ ys) ≡ keep f xs ++ keep f ys
+          → elim b [ true ↦ x ∷ keep f (xs ++ ys) | false ↦ keep f (xs ++ ys) ] ≡ elim b [ true ↦ x ∷ keep f xs | false ↦ keep f xs ] ++ keep f ys
+      go true e = ap (λ (zs : List A). x ∷ zs) e
+      go false e = e
+
+  pub kept-one : (x : A) → length (keep f (x ∷ [])) ≡ cond (f x) 1 0
+  unfolding keep
+  kept-one x = go (f x)
+    where
+      go : (b : Bool) → length {A = A} (elim b [ true ↦ x ∷ [] | false ↦ [] ]) ≡ cond b 1 0
+      go true = refl
+      go false = refl

@@ -15,7 +15,8 @@ use Rattle.graph.specs.Lists.{all}
 use Rattle.graph.specs.Lent.{short, written, Effect, _leaving_}
 use Rattle.graph.specs.Refuse.{Row, _⇒_, firstRefusal, Outcome, accepted, refused, numberOf}
 use Rattle.graph.specs.Graph.{Net, Graph, free, last, sinks, wellFormed, WellFormed}
-use Rattle.graph.specs.Sweep.{bools, litValue, values}
+use Rattle.graph.specs.Literal.{varOf, isOdd}
+use Rattle.graph.specs.Sweep.{bools, turned, litValue, values, valueAt}
 
 -- an input has the value that the assignment gives it, a gate none of its own
 unfoldable pub assigned : Net → (ℕ → Bool) → ℕ → Option Bool
@@ -25,6 +26,13 @@ assigned net a v = cond (leb v (free net)) (some (a v)) none
 unfoldable pub valuesUnder : Net → (ℕ → Bool) → ℕ → List Bool
 unfolding values bools assigned
 valuesUnder net a n = values bools (assigned net a) net n
+
+-- the value of variable v under the assignment a, and of the literal l
+abbrev pub valueUnder : Net → (ℕ → Bool) → ℕ → Bool
+valueUnder net a v = valueAt bools (assigned net a) net v
+
+abbrev pub literalUnder : Net → (ℕ → Bool) → ℕ → Bool
+literalUnder net a l = turned bools (isOdd l) (valueUnder net a (varOf l))
 
 -- the values of the outputs under the assignment a
 unfoldable pub outputsUnder : Graph → (ℕ → Bool) → List Bool
