@@ -4,3 +4,7 @@ pub mod Sweep
 pub mod Values
 pub mod Marks
 pub mod Use
+pub mod Renumber
+pub mod Stand
+pub mod Drop
+pub mod DropKeeps

@@ -3,8 +3,8 @@
 use mathlib.Core.Path.{_≡_, refl, sym, ap, ap₂, _∙_, subst}
 use mathlib.Core.Bool.{Bool, true, false, cond, false≢true}
 use mathlib.Core.List.{List, [], _∷_}
-use mathlib.Core.Logic.{_⊎_, inl, inr, ⊎-elim, _↔_}
-use Prim.Native.Nat.{ℕ, zero, suc, _+_, _*_, _≤_, _<_}
+use mathlib.Core.Logic.{_⊎_, ⊎-elim, _↔_}
+use Prim.Native.Nat.{ℕ, zero, suc, _+_, _≤_, _<_}
 use native.Mathlib.Nat.{le-refl}
 use native.Mathlib.Omega.{arith}
 use borrow.Author.Tests.{leb-true, ltb-true, le-leb, lt-ltb}
@@ -12,10 +12,10 @@ use lib.Dec.{leb, ltb}
 use lib.ListN.{length, getD, replicate, length-append, length-replicate}
 use Rattle.graph.specs.Lists.{gather, keep}
 use Rattle.graph.specs.Literal.{varOf}
-use Rattle.graph.specs.Graph.{Net, Graph, free, size, last, sinks, first, second, IsGate, Lawful}
+use Rattle.graph.specs.Graph.{Graph, free, size, last, sinks, first, second, IsGate, Lawful}
 use Rattle.graph.specs.Use.{Reached, as-output, as-first, as-second, InUse, markEach, markFanins, markDown, marks, inUse, countMarks, usedGates}
 use Rattle.graph.proofs.Lists.{at-most-or-above, and-left, and-right, and-both, same-tests, keep-append, kept-one}
-use Rattle.graph.proofs.Marks.{Marked, NamedBy, each-length, each-keeps, each-marks, each-only, fanins-length, fanins-keep, first-marked, second-marked, fanins-only}
+use Rattle.graph.proofs.Marks.{Marked, each-length, each-marks, each-only, fanins-length, fanins-keep, first-marked, second-marked, fanins-only}
 
 none-marked : (n v : ℕ) → ¬ Marked (replicate n false) v
 none-marked zero v m = false≢true m
@@ -127,6 +127,11 @@ module _ (g : Graph) where
     reached-marked v (as-output j h) = outputs-are-marked j h
     reached-marked v (as-first {v = u} i r) = fanins-are-marked u i (reached-marked u r) .0
     reached-marked v (as-second {v = u} i r) = fanins-are-marked u i (reached-marked u r) .1
+
+    pub reached-within : (v : ℕ) → Reached g v → v ≤ last (g .net)
+    reached-within v (as-output j h) = let b = ok .sinks-within j h in omega arith
+    reached-within v (as-first {v = u} i r) = let b = ok .below u i in let w = i .within in omega arith
+    reached-within v (as-second {v = u} i r) = let b = ok .below u i in let o = ok .ordered u i in let w = i .within in omega arith
 
     pub marked-iff : (v : ℕ) → Marked (marks g) v ↔ Reached g v
     marked-iff v = (marked-reached v, reached-marked v)

@@ -1,6 +1,6 @@
 -- The value of each variable under an assignment, by what the variable is; and the outputs' values by their literals.
 -- Assumes nothing.
-use mathlib.Core.Path.{_≡_, refl, sym, ap, ap₂, _∙_}
+use mathlib.Core.Path.{_≡_, refl, ap, ap₂, _∙_}
 use mathlib.Core.Bool.{Bool, false, _&&_}
 use mathlib.Core.List.{map}
 use mathlib.Core.Option.{Option, none, some, Option·getD}
