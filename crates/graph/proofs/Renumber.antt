@@ -2,20 +2,19 @@
 -- Assumes nothing.
 use mathlib.Core.Path.{_≡_, refl, sym, ap, _∙_, subst}
 use mathlib.Core.Bool.{Bool, false}
-use mathlib.Core.List.{List, [], _∷_, _++_}
+use mathlib.Core.List.{List, [], _∷_}
 use mathlib.Core.Logic.{_⊎_, ⊎-elim}
 use Prim.Native.Nat.{ℕ, zero, suc, _+_, _-_, _*_, _≤_, _<_}
 use native.Mathlib.Nat.{le-refl, le-trans}
 use native.Mathlib.Omega.{arith}
 use borrow.Author.Tests.{le-leb, lt-leb}
-use lib.ListN.{length, getD, length-append, List·getD-append}
-use lib.Seq.{getD-append-add}
+use lib.ListN.{length, getD, length-append}
 use Rattle.graph.specs.Lists.{gather}
 use Rattle.graph.specs.Literal.{varOf}
 use Rattle.graph.specs.Graph.{Net, free, size, last, first, second, IsGate}
 use Rattle.graph.specs.Use.{countMarks}
 use Rattle.graph.specs.Drop.{newNumber, renumbered, keptGate, keptNet}
-use Rattle.graph.proofs.Lists.{at-most-or-above, true-or-false}
+use Rattle.graph.proofs.Lists.{at-most-or-above, true-or-false, gather-at}
 use Rattle.graph.proofs.Marks.{Marked}
 
 module _ (net : Net) (ms : List Bool) where
@@ -130,23 +129,6 @@ module _ (net : Net) (ms : List Bool) where
       (λ m. omega (arith, ap length (kept-on (var n) m), count-on n m, pieces-length n))
       (λ m. omega (arith, ap length (kept-off (var n) m), count-off n m, pieces-length n)) (true-or-false (getD ms (var n) false))
 
-  -- a marked gate's words stand behind those of the marked gates before it
-  pieces-at : (n k i : ℕ) → k < n → i < 2 → Marked ms (var k) → getD (pieces n) (2 * count k + i) 0 ≡ getD (keptGate net ms (var k)) i 0
-  unfolding pieces gather
-  pieces-at zero k i h b m = absurd (omega arith)
-  pieces-at (suc n) k i h b m = ⊎-elim
-      (λ l.
-      List·getD-append (pieces n) (keptGate net ms (var n)) 0 (2 * count k + i)
-      (omega (arith, pieces-length n, count-on k m, count-mono (suc k) n l))
-      ∙ pieces-at n k i l b m)
-      (λ l.
-      let e : k ≡ n = omega arith in
-      let p : 2 * count k + i ≡ length (pieces n) + i = rw (pieces-length n, e) in
-      ap (λ (j : ℕ). getD (pieces n ++ keptGate net ms (var n)) j 0) p
-      ∙ getD-append-add (pieces n) (keptGate net ms (var n)) i 0
-      ∙ ap (λ (j : ℕ). getD (keptGate net ms (var j)) i 0) (sym e))
-      (at-most-or-above (suc k) n)
-
   pub kept-length : length (keptNet net ms .gates) ≡ 2 * countMarks net ms (size net)
   unfolding keptNet pieces count var
   kept-length = pieces-length (size net)
@@ -154,10 +136,14 @@ module _ (net : Net) (ms : List Bool) where
   pub kept-size : size (keptNet net ms) ≡ countMarks net ms (size net)
   kept-size = let e = kept-length in omega arith
 
+  -- a marked gate's words stand behind those of the marked gates before it
   kept-at : (k i : ℕ) → k < size net → i < 2 → Marked ms (var k)
       → getD (keptNet net ms .gates) (2 * count k + i) 0 ≡ getD (renumbered net ms (first net (var k)) ∷ renumbered net ms (second net (var k)) ∷ []) i 0
   unfolding keptNet pieces var
-  kept-at k i h b m = pieces-at (size net) k i h b m ∙ ap (λ (xs : List ℕ). getD xs i 0) (kept-on (var k) m)
+  kept-at k i h b m =
+      ap (λ (j : ℕ). getD (keptNet net ms .gates) (j + i) 0) (sym (pieces-length k))
+      ∙ gather-at (λ k. keptGate net ms (var k)) (size net) k i 0 h (omega (arith, ap length (kept-on (var k) m)))
+      ∙ ap (λ (xs : List ℕ). getD xs i 0) (kept-on (var k) m)
 
   -- ---- a marked gate under its new number
 

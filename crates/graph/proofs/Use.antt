@@ -63,11 +63,6 @@ module _ (g : Graph) where
   down-keeps zero ms u m = m
   down-keeps (suc k) ms u m = down-keeps k _ u (fanins-keep (g .net) _ ms u m)
 
-  down-length : (k : ℕ) (ms : List Bool) → length (markDown (g .net) k ms) ≡ length ms
-  unfolding markDown
-  down-length zero ms = refl
-  down-length (suc k) ms = down-length k _ ∙ fanins-length (g .net) _ ms
-
   -- ---- a reached variable is marked: fanins are lower, so one pass from the highest gate down meets each gate after all that name it
 
   module _ (ok : Lawful g) where
@@ -106,10 +101,6 @@ module _ (g : Graph) where
         λ u p. down-keeps k _ u (subst (λ (x : ℕ). Marked (markFanins (g .net) x ms) u) (sym e) p) in
         (after _ (first-marked (g .net) v ms n (omega arith)), after _ (second-marked (g .net) v ms n (omega arith))))
         (at-most-or-above v (free (g .net) + k))
-
-    marks-length : length (marks g) ≡ suc (last (g .net))
-    unfolding marks
-    marks-length = down-length (size (g .net)) _ ∙ each-length (sinks g) _ ∙ length-replicate (suc (last (g .net))) false
 
     pub fanins-are-marked : (v : ℕ) → IsGate (g .net) v → Marked (marks g) v → Marked (marks g) (varOf (first (g .net) v)) × Marked (marks g) (varOf (second (g .net) v))
     unfolding marks
