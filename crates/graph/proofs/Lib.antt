@@ -8,3 +8,4 @@ pub mod Renumber
 pub mod Stand
 pub mod Drop
 pub mod DropKeeps
+pub mod Refusals

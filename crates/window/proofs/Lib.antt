@@ -1,3 +1,12 @@
 pub mod Bits
 pub mod Tables
 pub mod Patterns
+pub mod Members
+pub mod Coverage
+pub mod LeafSets
+pub mod Sets
+pub mod Weight
+pub mod Expansions
+pub mod Smallest
+pub mod Choice
+pub mod LeafRule

@@ -88,7 +88,7 @@ functions-packed net w n =
     (leafOwn w (λ j i. bit i j)) (leafOwn w leafPattern)
     (λ v. own-map (pack patterns) w (λ j i. bit i j) v ∙ ap (λ (a : ℕ → ℕ). leafOwn w a v) (fun-ext leaf-pattern)) net n
 
-local-stays : (net : Net) (w : Leaves) (a : ℕ → Bool) (n v : ℕ) → v ≤ n → getD (localUpTo net w a n) v false ≡ localAt net w a v
+pub local-stays : (net : Net) (w : Leaves) (a : ℕ → Bool) (n v : ℕ) → v ≤ n → getD (localUpTo net w a n) v false ≡ localAt net w a v
 unfolding localUpTo localAt bools
 local-stays net w a n v h = values-at bools (leafOwn w a) net n v h
 

@@ -1,0 +1,119 @@
+-- The candidates of a root: all replacements that keep their kind's rule are among them, and they stand in order.
+-- Assumes nothing.
+use mathlib.Core.Path.{_≡_, refl}
+use mathlib.Core.Bool.{Bool, true, false, false≢true, cond}
+use mathlib.Core.List.{List, [], _∷_, List·Memᴰ·head, Memᴰ·append-left, Memᴰ·append-right, Memᴰ·cast}
+use Prim.Native.Nat.{ℕ, _*_, _≤_, _<_}
+use native.Mathlib.Nat.{le-refl}
+use native.Mathlib.Omega.{arith}
+use borrow.Author.Tests.{leb-true, ltb-true, eqb-true}
+use lib.Dec.{eqb}
+use Rattle.graph.specs.Lists.{_∈_, gather, every}
+use Rattle.graph.specs.Literal.{varOf}
+use Rattle.graph.specs.Graph.{Net, Graph}
+use Rattle.graph.proofs.Lists.{and-left, every-at}
+use Rattle.window.specs.declared.Leaves.{Leaves}
+use Rattle.window.specs.Local.{covered}
+use Rattle.replace.specs.declared.Proposal.{Proposal}
+use Rattle.replace.specs.Proposal.{literal, andGate, divides, literalRules, andRules, allowed}
+use Rattle.listing.specs.Listing.{candidates, candidateOf, Before, by-kind, by-first, by-second, by-turned}
+use Rattle.listing.proofs.Members.{Each, each-one, each-gather, in-gather}
+use Rattle.listing.proofs.Sorted.{Sorted, sorted-one, sorted-join, sorted-gather}
+
+-- the candidates' parts: those of kind 0; those of kind 1 by both literals, by the first, and all
+abbrev literals : ℕ → List Proposal
+literals root = gather (λ l. literal l ∷ []) (2 * root)
+
+abbrev andsOver : ℕ → ℕ → List Proposal
+andsOver a b = gather (λ c. andGate a b c ∷ []) 2
+
+abbrev andsFrom : ℕ → ℕ → List Proposal
+andsFrom root a = gather (andsOver a) (2 * root)
+
+abbrev ands : ℕ → List Proposal
+ands root = gather (andsFrom root) (2 * root)
+
+-- ---- who is among them
+
+module _ (root : ℕ) where
+  literal-in : (l : ℕ) → l < 2 * root → literal l ∈ candidates root
+  unfolding candidates
+  literal-in l h = Memᴰ·append-left (ands root) (in-gather (λ l. literal l ∷ []) (2 * root) l (literal l) h (List·Memᴰ·head refl))
+
+  and-in : (a b c : ℕ) → a < 2 * root → b < 2 * root → c < 2 → andGate a b c ∈ candidates root
+  unfolding candidates
+  and-in a b c h k l =
+      let p = andGate a b c in
+      let over = in-gather (λ c. andGate a b c ∷ []) 2 c p l (List·Memᴰ·head refl) in
+      Memᴰ·append-right (literals root) (in-gather (andsFrom root) (2 * root) a p h (in-gather (andsOver a) (2 * root) b p k over))
+
+-- the literal's variable is below the root
+divides-below : (net : Net) (root : ℕ) (w : Leaves) (l : ℕ) → divides net root w l ≡ true → l < 2 * root
+unfolding divides
+divides-below net root w l e = let h : varOf l < root = ltb-true (varOf l) root (and-left _ (covered net w (varOf l)) e) in omega arith
+
+same-proposal : (p q : Proposal) → p .kind ≡ q .kind → p .first .0 ≡ q .first .0 → p .second .0 ≡ q .second .0 → p .turned ≡ q .turned → p ≡ q
+same-proposal p q e f s t = λ i. record { kind = e i; first = record { 0 = f i }; second = record { 0 = s i }; turned = t i }
+
+pub allowed-in : (net : Net) (root : ℕ) (w : Leaves) (p : Proposal) → allowed net root w p ≡ true → p ∈ candidates root
+unfolding allowed literalRules andRules
+allowed-in net root w p = go (eqb (p .kind) 0) refl (eqb (p .kind) 1) refl
+  where
+    below : (l : ℕ) → divides net root w l ≡ true → l < 2 * root
+    below = divides-below net root w
+
+    go : (t : Bool) → eqb (p .kind) 0 ≡ t → (u : Bool) → eqb (p .kind) 1 ≡ u → cond t (every (literalRules net root w p)) (cond u (every (andRules net root w p)) false) ≡ true → p ∈ candidates root
+    go true e u f h =
+        let at = every-at (literalRules net root w p) h in
+        Memᴰ·cast (same-proposal p (literal (p .first .0)) (eqb-true _ _ e) refl (eqb-true _ _ (at 1)) (eqb-true _ _ (at 2)))
+        (literal-in root (p .first .0) (below _ (at 0)))
+    go false e true f h =
+        let at = every-at (andRules net root w p) h in
+        let few : p .turned ≤ 1 = leb-true _ _ (at 4) in
+        Memᴰ·cast (same-proposal p (andGate (p .first .0) (p .second .0) (p .turned)) (eqb-true _ _ f) refl refl refl)
+        (and-in root (p .first .0) (p .second .0) (p .turned) (below _ (at 0)) (below _ (at 1)) (omega arith))
+    go false e false f h = absurd (false≢true h)
+
+-- ---- their order
+
+-- what holds for every candidate of kind 1 over these literals holds for each member
+module _ (P : Proposal → Type 0) where
+  each-over : (a b : ℕ) → ((c : ℕ) → P (andGate a b c)) → Each P (andsOver a b)
+  each-over a b h = each-gather P (λ c. andGate a b c ∷ []) 2 (λ c _. each-one P (andGate a b c) (h c))
+
+  each-from : (root a : ℕ) → ((b c : ℕ) → P (andGate a b c)) → Each P (andsFrom root a)
+  each-from root a h = each-gather P (andsOver a) (2 * root) (λ b _. each-over a b (h b))
+
+-- the order of the records that two replacements would have
+abbrev pub Earlier : Graph → ℕ → Proposal → Proposal → Type 0
+Earlier g root p q = Before (candidateOf g root p) (candidateOf g root q)
+
+module _ (g : Graph) (root : ℕ) where
+  literals-sorted : Sorted (Earlier g root) (literals root)
+  unfolding candidateOf
+  literals-sorted =
+      sorted-gather _ (λ l. literal l ∷ []) (2 * root) (λ l. sorted-one _ (literal l))
+      (λ i j h. each-one _ (literal i) (each-one _ (literal j) (by-first refl h)))
+
+  over-sorted : (a b : ℕ) → Sorted (Earlier g root) (andsOver a b)
+  unfolding candidateOf
+  over-sorted a b =
+      sorted-gather _ (λ c. andGate a b c ∷ []) 2 (λ c. sorted-one _ (andGate a b c))
+      (λ i j h. each-one _ (andGate a b i) (each-one _ (andGate a b j) (by-turned refl refl refl h)))
+
+  from-sorted : (a : ℕ) → Sorted (Earlier g root) (andsFrom root a)
+  unfolding candidateOf
+  from-sorted a =
+      sorted-gather _ (andsOver a) (2 * root) (over-sorted a) (λ i j h. each-over _ a i (λ c. each-over _ a j (λ d. by-second refl refl h)))
+
+  ands-sorted : Sorted (Earlier g root) (ands root)
+  unfolding candidateOf
+  ands-sorted =
+      sorted-gather _ (andsFrom root) (2 * root) from-sorted (λ i j h. each-from _ root i (λ b c. each-from _ root j (λ d e. by-first refl h)))
+
+  pub candidates-sorted : Sorted (Earlier g root) (candidates root)
+  unfolding candidates candidateOf
+  candidates-sorted =
+      sorted-join _ (ands root) literals-sorted ands-sorted
+      (each-gather _ _ (2 * root) (λ l _. each-one _ (literal l)
+      (each-gather _ (andsFrom root) (2 * root) (λ a _. each-from _ root a (λ b c. by-kind (le-refl 1))))))

@@ -1,0 +1,5 @@
+pub mod Members
+pub mod Sorted
+pub mod Order
+pub mod Candidates
+pub mod TheList

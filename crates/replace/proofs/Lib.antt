@@ -1,0 +1,4 @@
+pub mod Circuit
+pub mod Allowed
+pub mod Rewire
+pub mod Replacement

@@ -1,0 +1,170 @@
+-- A replacement whose table is the root's: every output keeps its value, and the finished graph is well formed.
+-- Kinds 0 and 1 are two uses of the one argument in Circuit.
+-- Assumes nothing.
+use mathlib.Core.Path.{_≡_, refl, sym, ap, ap₂, _∙_}
+use mathlib.Core.Bool.{Bool, true, cond, _&&_, and-comm}
+use mathlib.Core.Logic.{⊎-elim}
+use Prim.Native.Nat.{ℕ, _+_, _*_, _%_, _≤_, _<_, max, min}
+use native.Mathlib.Omega.{arith}
+use borrow.Author.Tests.{eq-eqb, ne-eqb}
+use lib.Dec.{eqb}
+use lib.ListN.{length-map}
+use Rattle.graph.specs.Literal.{varOf, isOdd, flip}
+use Rattle.graph.specs.Graph.{Net, Graph, sinks, first, second, IsGate, Lawful, WellFormed}
+use Rattle.graph.specs.Sweep.{bools, turned, litValue}
+use Rattle.graph.specs.Evaluate.{valueUnder, literalUnder, valuesUnder, outputsUnder}
+use Rattle.graph.proofs.Lists.{at-most-or-above, equal-or-not, map-same}
+use Rattle.graph.proofs.Values.{literal-value, value-gate}
+use Rattle.graph.proofs.Stand.{moved, Copies, in-order, exchanged}
+use Rattle.graph.proofs.Drop.{dropped-well-formed}
+use Rattle.graph.proofs.DropKeeps.{dropped-keeps-outputs}
+use Rattle.window.specs.declared.Leaves.{Leaves}
+use Rattle.window.specs.Leaves.{leafLimit}
+use Rattle.window.specs.Local.{covered}
+use Rattle.window.specs.Table.{table}
+use Rattle.replace.specs.declared.Proposal.{Proposal}
+use Rattle.replace.specs.Proposal.{Allowed, a-literal, an-and, proposedValue, proposedTable}
+use Rattle.replace.specs.Rewire.{standIn, redirected, rewired, finished}
+use Rattle.replace.proofs.Circuit.{Replaced, replaced-keeps-outputs}
+use Rattle.replace.proofs.Allowed.{value-of-literal, value-of-and, equal-table-computes}
+use Rattle.replace.proofs.Rewire.{literal-stands, root-stands, redirected-root, redirected-other, rewired-size, rewired-free, other-gate, and-root, rewired-lawful}
+
+-- all that is asked of a replacement but its gain
+pub record Fits (g : Graph) (root : ℕ) (w : Leaves) (p : Proposal) : Type 0 where
+  pub lawful : Lawful g
+  pub gate : IsGate (g .net) root
+  pub few : w .count ≤ leafLimit
+  pub cut : covered (g .net) w root ≡ true
+  pub rule : Allowed (g .net) root w p
+  pub equal : proposedTable (g .net) root w p ≡ table (g .net) w root
+
+-- the literal that stands for variable v afterwards
+standFor : ℕ → Proposal → ℕ → ℕ
+standFor root p v = cond (eqb v root) (standIn root p) (2 * v)
+
+stand-root : (root : ℕ) (p : Proposal) (v : ℕ) → v ≡ root → standFor root p v ≡ standIn root p
+unfolding standFor
+stand-root root p v e = rw (eq-eqb v root e)
+
+stand-other : (root : ℕ) (p : Proposal) (v : ℕ) → ¬ (v ≡ root) → standFor root p v ≡ 2 * v
+unfolding standFor
+stand-other root p v n = rw (ne-eqb v root n)
+
+-- a moved literal is a redirected one
+moved-is : (net net′ : Net) (root : ℕ) (p : Proposal) (l : ℕ) → moved net net′ (standFor root p) l ≡ redirected root p l
+moved-is net net′ root p l = ⊎-elim
+    (λ e. ap (λ (s : ℕ). flip s l) (stand-root root p (varOf l) e) ∙ sym (redirected-root root p l e))
+    (λ n. ap (λ (s : ℕ). flip s l) (stand-other root p (varOf l) n) ∙ omega arith ∙ sym (redirected-other root p l n))
+    (equal-or-not (varOf l) root)
+
+-- of two literals the larger stands first; their AND is the same
+larger-first : (f : ℕ → Bool) (x y : ℕ) → f (max x y) && f (min x y) ≡ f x && f y
+larger-first f x y = ⊎-elim
+    (λ h. let a : max x y ≡ y = omega arith in let b : min x y ≡ x = omega arith in rw (a, b) (and-comm (f y) (f x)))
+    (λ h. let a : max x y ≡ x = omega arith in let b : min x y ≡ y = omega arith in rw (a, b)) (at-most-or-above x y)
+
+module _ (g : Graph) (root : ℕ) (w : Leaves) (p : Proposal) (fits : Fits g root w p) where
+  g′ : Graph
+  g′ = rewired g root p
+
+  abbrev stand : ℕ → ℕ
+  stand v = standFor root p v
+
+  lawful′ : Lawful g′
+  unfolding g′
+  lawful′ = rewired-lawful g (fits .lawful) root (fits .gate) w p (fits .rule)
+
+  gate′ : (v : ℕ) → IsGate (g .net) v → IsGate (g′ .net) v
+  unfolding g′ rewired
+  gate′ v i = record {
+    above = let a = i .above in omega (arith, rewired-free (g .net) root p);
+    within = let b = i .within in omega (arith, rewired-free (g .net) root p, rewired-size (g .net) root p);
+  }
+
+  -- ---- gates other than the root are copied, larger literal first
+
+  copies : (v : ℕ) → IsGate (g .net) v → ¬ (v ≡ root) → Copies (g .net) (g′ .net) stand v v
+  unfolding g′ rewired
+  copies v i n =
+      let a = redirected root p (first (g .net) v) in
+      let b = redirected root p (second (g .net) v) in
+      let h = other-gate (g .net) root p v i n in
+      let is-a = moved-is (g .net) (g′ .net) root p (first (g .net) v) in
+      let is-b = moved-is (g .net) (g′ .net) root p (second (g .net) v) in
+      ⊎-elim
+      (λ l. in-order (omega (arith, h .0, is-a)) (omega (arith, h .1, is-b)))
+      (λ l. exchanged (omega (arith, h .0, is-b)) (omega (arith, h .1, is-a)))
+      (at-most-or-above b a)
+
+  -- ---- the circuit at the root, by kind
+
+  module _ (a : ℕ → Bool) where
+    value-in : (l : ℕ) → varOf l < root → litValue bools (valuesUnder (g′ .net) a root) l ≡ literalUnder (g′ .net) a l
+    value-in l h = literal-value (g′ .net) a root l (omega arith)
+
+    and-at-root : p .kind ≡ 1 → valueUnder (g′ .net) a root ≡ literalUnder (g′ .net) a (p .first .0) && literalUnder (g′ .net) a (p .second .0)
+    unfolding g′ rewired
+    and-at-root k =
+        let i = gate′ root (fits .gate) in
+        let b = lawful′ .below root i in
+        let o = lawful′ .ordered root i in
+        let h = and-root (g .net) root p root (fits .gate) refl k in
+        value-gate (g′ .net) a root (i .above) b (omega arith)
+        ∙ ap₂ (λ (x y : ℕ). literalUnder (g′ .net) a x && literalUnder (g′ .net) a y) (h .0) (h .1)
+        ∙ larger-first (literalUnder (g′ .net) a) (p .first .0) (p .second .0)
+
+    root-literal : p .kind ≡ 1 → p .turned ≤ 1 → literalUnder (g′ .net) a (standIn root p) ≡ turned bools (isOdd (p .turned)) (valueUnder (g′ .net) a root)
+    root-literal k t =
+        let sign : (2 * root + p .turned) % 2 ≡ p .turned % 2 = omega arith in
+        let var : varOf (2 * root + p .turned) ≡ root = omega arith in
+        ap (literalUnder (g′ .net) a) (root-stands root p k) ∙ ap₂ (λ (s v : ℕ). turned bools (eqb s 1) (valueUnder (g′ .net) a v)) sign var
+
+    root-is : Allowed (g .net) root w p → literalUnder (g′ .net) a (standIn root p) ≡ proposedValue bools (valuesUnder (g′ .net) a root) p
+    unfolding bools
+    root-is (a-literal k d s t) =
+        ap (literalUnder (g′ .net) a) (literal-stands root p k)
+        ∙ sym (value-in (p .first .0) (d .below-root))
+        ∙ sym (value-of-literal p k (valuesUnder (g′ .net) a root))
+    root-is (an-and k d d′ z l t) =
+        root-literal k t
+        ∙ ap (turned bools (isOdd (p .turned)))
+        (and-at-root k ∙ sym (ap₂ _&&_ (value-in (p .first .0) (d .below-root)) (value-in (p .second .0) (d′ .below-root))))
+        ∙ sym (value-of-and p k (valuesUnder (g′ .net) a root))
+
+  -- ---- the theorems
+
+  replaced : Replaced g g′ root stand (λ vs. proposedValue bools vs p)
+  replaced = record {
+    same-free = unfold g′ rewired in sym (rewired-free (g .net) root p);
+    stays = λ v h. stand-other root p v (λ e. omega arith);
+    new = λ v. v;
+    new-is = λ v i n. stand-other root p v n;
+    new-gate = λ v i n. gate′ v i;
+    copies = copies;
+    root-is = λ a. ap (literalUnder (g′ .net) a) (stand-root root p root refl) ∙ root-is a (fits .rule);
+    outputs-moved = unfold g′ rewired in
+        map-same (redirected root p) (moved (g .net) (g′ .net) stand) 0 (sinks g) (λ j h. sym (moved-is (g .net) (g′ .net) root p _));
+  }
+
+  pub rewired-keeps-outputs : (a : ℕ → Bool) → outputsUnder (rewired g root p) a ≡ outputsUnder g a
+  unfolding g′
+  rewired-keeps-outputs a =
+      replaced-keeps-outputs g g′ (fits .lawful) lawful′ root (fits .gate) w (fits .cut) stand (λ vs. proposedValue bools vs p)
+      (equal-table-computes (g .net) root w p (fits .few) (fits .rule) (fits .equal)) replaced a
+
+  pub finished-keeps-outputs : (a : ℕ → Bool) → outputsUnder (finished g root p) a ≡ outputsUnder g a
+  unfolding finished g′
+  finished-keeps-outputs a = dropped-keeps-outputs (rewired g root p) lawful′ a ∙ rewired-keeps-outputs a
+
+  rewired-well-formed : WellFormed g → WellFormed g′
+  unfolding g′
+  rewired-well-formed ok = record {
+    lawful = lawful′;
+    inputs-few = unfold rewired in rw (rewired-free (g .net) root p) (ok .inputs-few);
+    outputs-few = unfold rewired in rw (length-map (sinks g) (redirected root p)) (ok .outputs-few);
+    gates-few = unfold rewired in rw (rewired-size (g .net) root p) (ok .gates-few);
+  }
+
+  pub finished-well-formed : WellFormed g → WellFormed (finished g root p)
+  unfolding finished g′
+  finished-well-formed ok = dropped-well-formed (rewired g root p) lawful′ (rewired-well-formed ok)
