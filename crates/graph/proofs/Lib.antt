@@ -1,4 +1,5 @@
 pub mod Lists
+pub mod Members
 pub mod WellFormed
 pub mod Sweep
 pub mod Values

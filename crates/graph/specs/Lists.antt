@@ -2,14 +2,16 @@
 -- Assumes nothing.
 use Prim.Native.Nat.{ℕ, zero, suc, _-_}
 use mathlib.Core.Bool.{Bool, true, false, _&&_, _||_}
-use mathlib.Core.List.{List, [], _∷_, _++_, List·Memᴰ}
+use mathlib.Core.Path.{_≡_}
+use mathlib.Core.List.{List, [], _∷_, _++_}
 use lib.Dec.{eqb}
 use lib.ListN.{length, replicate}
 
 -- x stands in the list
 infix 50 _∈_
-abbrev pub _∈_ : {A : Type 0} → A → List A → Type 0
-x ∈ xs = List·Memᴰ x xs
+pub data _∈_ {A : Type 0} (x : A) : List A → Type 0 where
+  here : {y : A} {ys : List A} → x ≡ y → x ∈ (y ∷ ys)
+  later : {y : A} {ys : List A} → x ∈ ys → x ∈ (y ∷ ys)
 
 -- the pieces f 0, f 1, .. f (n - 1), joined
 unfoldable pub gather : {A : Type 0} → (ℕ → List A) → ℕ → List A

@@ -1,23 +1,20 @@
 -- The candidates of a root: all replacements that keep their kind's rule are among them, and they stand in order.
 -- Assumes nothing.
 use mathlib.Core.Path.{_≡_, refl}
-use mathlib.Core.Bool.{Bool, true, false, false≢true, cond}
-use mathlib.Core.List.{List, [], _∷_, List·Memᴰ·head, Memᴰ·append-left, Memᴰ·append-right, Memᴰ·cast}
-use Prim.Native.Nat.{ℕ, _*_, _≤_, _<_}
+use mathlib.Core.Bool.{true}
+use mathlib.Core.List.{List, [], _∷_}
+use Prim.Native.Nat.{ℕ, _*_, _<_}
 use native.Mathlib.Nat.{le-refl}
 use native.Mathlib.Omega.{arith}
-use borrow.Author.Tests.{leb-true, ltb-true, eqb-true}
-use lib.Dec.{eqb}
-use Rattle.graph.specs.Lists.{_∈_, gather, every}
-use Rattle.graph.specs.Literal.{varOf}
+use Rattle.graph.specs.Lists.{_∈_, here, gather}
+use Rattle.graph.proofs.Members.{in-gather, in-left, in-right, in-same}
 use Rattle.graph.specs.Graph.{Net, Graph}
-use Rattle.graph.proofs.Lists.{and-left, every-at}
 use Rattle.window.specs.declared.Leaves.{Leaves}
-use Rattle.window.specs.Local.{covered}
 use Rattle.replace.specs.declared.Proposal.{Proposal}
-use Rattle.replace.specs.Proposal.{literal, andGate, divides, literalRules, andRules, allowed}
+use Rattle.replace.specs.Proposal.{literal, andGate, Divides, allowed, Allowed, a-literal, an-and}
+use Rattle.replace.proofs.Allowed.{allowed-facts}
 use Rattle.listing.specs.Listing.{candidates, candidateOf, Before, by-kind, by-first, by-second, by-turned}
-use Rattle.listing.proofs.Members.{Each, each-one, each-gather, in-gather}
+use Rattle.listing.proofs.Each.{Each, each-one, each-gather}
 use Rattle.listing.proofs.Sorted.{Sorted, sorted-one, sorted-join, sorted-gather}
 
 -- the candidates' parts: those of kind 0; those of kind 1 by both literals, by the first, and all
@@ -38,41 +35,29 @@ ands root = gather (andsFrom root) (2 * root)
 module _ (root : ℕ) where
   literal-in : (l : ℕ) → l < 2 * root → literal l ∈ candidates root
   unfolding candidates
-  literal-in l h = Memᴰ·append-left (ands root) (in-gather (λ l. literal l ∷ []) (2 * root) l (literal l) h (List·Memᴰ·head refl))
+  literal-in l h = in-left (ands root) (in-gather (λ l. literal l ∷ []) (2 * root) l (literal l) h (here refl))
 
   and-in : (a b c : ℕ) → a < 2 * root → b < 2 * root → c < 2 → andGate a b c ∈ candidates root
   unfolding candidates
   and-in a b c h k l =
       let p = andGate a b c in
-      let over = in-gather (λ c. andGate a b c ∷ []) 2 c p l (List·Memᴰ·head refl) in
-      Memᴰ·append-right (literals root) (in-gather (andsFrom root) (2 * root) a p h (in-gather (andsOver a) (2 * root) b p k over))
-
--- the literal's variable is below the root
-divides-below : (net : Net) (root : ℕ) (w : Leaves) (l : ℕ) → divides net root w l ≡ true → l < 2 * root
-unfolding divides
-divides-below net root w l e = let h : varOf l < root = ltb-true (varOf l) root (and-left _ (covered net w (varOf l)) e) in omega arith
+      let over = in-gather (λ c. andGate a b c ∷ []) 2 c p l (here refl) in
+      in-right (literals root) (in-gather (andsFrom root) (2 * root) a p h (in-gather (andsOver a) (2 * root) b p k over))
 
 same-proposal : (p q : Proposal) → p .kind ≡ q .kind → p .first .0 ≡ q .first .0 → p .second .0 ≡ q .second .0 → p .turned ≡ q .turned → p ≡ q
 same-proposal p q e f s t = λ i. record { kind = e i; first = record { 0 = f i }; second = record { 0 = s i }; turned = t i }
 
 pub allowed-in : (net : Net) (root : ℕ) (w : Leaves) (p : Proposal) → allowed net root w p ≡ true → p ∈ candidates root
-unfolding allowed literalRules andRules
-allowed-in net root w p = go (eqb (p .kind) 0) refl (eqb (p .kind) 1) refl
+allowed-in net root w p e = go (allowed-facts net root w p e)
   where
-    below : (l : ℕ) → divides net root w l ≡ true → l < 2 * root
-    below = divides-below net root w
+    below : (l : ℕ) → Divides net root w l → l < 2 * root
+    below l d = let h = d .below-root in omega arith
 
-    go : (t : Bool) → eqb (p .kind) 0 ≡ t → (u : Bool) → eqb (p .kind) 1 ≡ u → cond t (every (literalRules net root w p)) (cond u (every (andRules net root w p)) false) ≡ true → p ∈ candidates root
-    go true e u f h =
-        let at = every-at (literalRules net root w p) h in
-        Memᴰ·cast (same-proposal p (literal (p .first .0)) (eqb-true _ _ e) refl (eqb-true _ _ (at 1)) (eqb-true _ _ (at 2)))
-        (literal-in root (p .first .0) (below _ (at 0)))
-    go false e true f h =
-        let at = every-at (andRules net root w p) h in
-        let few : p .turned ≤ 1 = leb-true _ _ (at 4) in
-        Memᴰ·cast (same-proposal p (andGate (p .first .0) (p .second .0) (p .turned)) (eqb-true _ _ f) refl refl refl)
-        (and-in root (p .first .0) (p .second .0) (p .turned) (below _ (at 0)) (below _ (at 1)) (omega arith))
-    go false e false f h = absurd (false≢true h)
+    go : Allowed net root w p → p ∈ candidates root
+    go (a-literal k d s t) = in-same (same-proposal p (literal (p .first .0)) k refl s t) (literal-in root (p .first .0) (below (p .first .0) d))
+    go (an-and k d d′ z l t) =
+        in-same (same-proposal p (andGate (p .first .0) (p .second .0) (p .turned)) k refl refl refl)
+        (and-in root (p .first .0) (p .second .0) (p .turned) (below (p .first .0) d) (below (p .second .0) d′) (omega arith))
 
 -- ---- their order
 

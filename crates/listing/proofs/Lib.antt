@@ -1,4 +1,4 @@
-pub mod Members
+pub mod Each
 pub mod Sorted
 pub mod Order
 pub mod Candidates

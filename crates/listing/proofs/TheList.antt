@@ -2,12 +2,13 @@
 -- Assumes nothing.
 use mathlib.Core.Path.{_≡_, refl, sym, ap, subst, _∙_}
 use mathlib.Core.Bool.{true, false≢true}
-use mathlib.Core.List.{List, [], _∷_, List·Memᴰ·head, List·Memᴰ·not-nil, Memᴰ·cast, Memᴰ·map, Memᴰ·of-map}
+use mathlib.Core.List.{List, [], _∷_}
 use mathlib.Core.Logic.{_↔_}
 use Prim.Native.Nat.{ℕ, _≤_}
 use borrow.Author.Tests.{ltb-true, lt-ltb, eqb-true, eq-eqb}
 use lib.IntN.{ℤ, pos, negsuc, natAbs}
-use Rattle.graph.specs.Lists.{_∈_, keep}
+use Rattle.graph.specs.Lists.{_∈_, here, keep}
+use Rattle.graph.proofs.Members.{none-in, in-same, in-keep, keep-from, map-from, in-map}
 use Rattle.graph.specs.Graph.{Graph}
 use Rattle.graph.proofs.Lists.{and-left, and-right, and-both}
 use Rattle.window.specs.declared.Leaves.{Leaves}
@@ -18,7 +19,7 @@ use Rattle.replace.specs.Rewire.{gain, atLeastOne}
 use Rattle.replace.specs.Calls.{equalTables}
 use Rattle.listing.specs.declared.Candidate.{Candidate}
 use Rattle.listing.specs.Listing.{candidates, good, candidateOf, listed, proposalOf, GoodRecord, Before, IsTheList}
-use Rattle.listing.proofs.Members.{Each, each-keep, in-keep}
+use Rattle.listing.proofs.Each.{Each}
 use Rattle.listing.proofs.Sorted.{sorted-keep, sorted-map}
 use Rattle.listing.proofs.Order.{sorted-ascending, ascending-same}
 use Rattle.listing.proofs.Candidates.{allowed-in, candidates-sorted}
@@ -59,15 +60,15 @@ module _ (g : Graph) (root : ℕ) (w : Leaves) where
   listed-good : Each (GoodRecord g root w) (listed g root w)
   unfolding listed
   listed-good x m =
-      let from = Memᴰ·of-map (candidateOf g root) (keep (good g root w) (candidates root)) m in
-      subst (GoodRecord g root w) (from .2) (good-record (from .0) ((each-keep (λ p. p ∈ candidates root) (good g root w) (candidates root) (λ p k. k) (from .0) (from .1)) .1))
+      let from = map-from (candidateOf g root) (keep (good g root w) (candidates root)) m in
+      subst (GoodRecord g root w) (sym (from .2)) (good-record (from .0) (keep-from (good g root w) (candidates root) (from .1) .1))
 
   good-listed : (x : Candidate) → GoodRecord g root w x → x ∈ listed g root w
   unfolding listed
   good-listed x r =
       let p = proposalOf x in
-      Memᴰ·cast (record-is x r)
-      (Memᴰ·map (candidateOf g root) (in-keep (good g root w) (candidates root) p (allowed-in (g .net) root w p (r .keeps-rule)) (record-good x r)))
+      in-same (record-is x r)
+      (in-map (candidateOf g root) (in-keep (good g root w) (candidates root) (allowed-in (g .net) root w p (r .keeps-rule)) (record-good x r)))
 
 -- ---- the list
 
@@ -85,8 +86,8 @@ the-list g root w xs ys a b =
 
 no-members : {A : Type 0} (xs : List A) → ((x : A) → ¬ (x ∈ xs)) → xs ≡ []
 no-members [] h = refl
-no-members (x ∷ xs) h = absurd (h x (List·Memᴰ·head refl))
+no-members (x ∷ xs) h = absurd (h x (here refl))
 
 -- the list is empty if and only if there is no good replacement
 pub list-empty-iff : (g : Graph) (root : ℕ) (w : Leaves) → (listed g root w ≡ []) ↔ ((x : Candidate) → ¬ GoodRecord g root w x)
-list-empty-iff g root w = (λ e x r. List·Memᴰ·not-nil (rw e at (good-listed g root w x r)), λ h. no-members (listed g root w) (λ x m. h x (listed-good g root w x m)))
+list-empty-iff g root w = (λ e x r. none-in (rw e at (good-listed g root w x r)), λ h. no-members (listed g root w) (λ x m. h x (listed-good g root w x m)))

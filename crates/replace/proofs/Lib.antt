@@ -2,3 +2,4 @@ pub mod Circuit
 pub mod Allowed
 pub mod Rewire
 pub mod Replacement
+pub mod Gain

@@ -9,11 +9,11 @@ use native.Mathlib.Omega.{arith}
 use borrow.Author.Tests.{leb-true, ltb-true, le-leb, lt-ltb}
 use lib.Dec.{leb, ltb}
 use lib.ListN.{length, getD, length-map}
-use Rattle.graph.specs.Lists.{keep}
+use Rattle.graph.specs.Lists.{_∈_, keep}
 use Rattle.graph.specs.Graph.{Net, free}
 use Rattle.window.specs.Leaves.{ascendsFrom}
 use Rattle.window.specs.LeafRule.{expand, expansions, smallest}
-use Rattle.window.proofs.Members.{_∈_, at-place, place-of, keep-in, keep-from, map-in, map-at, keep-map}
+use Rattle.graph.proofs.Members.{at-place, place-of, in-keep, keep-from, in-map, map-at, keep-map}
 use Rattle.window.proofs.Sets.{higher-later, keep-ascends}
 use Rattle.window.proofs.Smallest.{Smallest, smallest-is}
 
@@ -44,7 +44,9 @@ module _ (limit : ℕ) (net : Net) (xs : List ℕ) where
 
   candidate-in : (v : ℕ) → Candidate limit net xs v → v ∈ candidates
   unfolding candidates
-  candidate-in v c = keep-in (λ v. leb (length (expand net xs v)) limit) (keep-in (λ v. ltb (free net) v) (c .is-leaf) (lt-ltb _ _ (c .is-gate))) (le-leb _ _ (c .few))
+  candidate-in v c =
+      in-keep (λ v. leb (length (expand net xs v)) limit) (keep (λ v. ltb (free net) v) xs) (in-keep (λ v. ltb (free net) v) xs (c .is-leaf) (lt-ltb _ _ (c .is-gate)))
+      (le-leb _ _ (c .few))
 
   expansions-are : expansions limit net xs ≡ map (expand net xs) candidates
   unfolding expansions candidates
@@ -56,7 +58,7 @@ module _ (limit : ℕ) (net : Net) (xs : List ℕ) where
 
   -- where there is no expansion there is no candidate
   pub no-candidate : expansions limit net xs ≡ [] → (v : ℕ) → ¬ Candidate limit net xs v
-  no-candidate e v c = elim (rw (sym expansions-are ∙ e) at (map-in (expand net xs) (candidate-in v c))) [ ]
+  no-candidate e v c = elim (rw (sym expansions-are ∙ e) at (in-map (expand net xs) (candidate-in v c))) [ ]
 
   -- the place of a candidate's expansion
   expansion-at : (u : ℕ) → Candidate limit net xs u → (j : ℕ) × (j < length candidates) × (getD candidates j 0 ≡ u) × (getD (map (expand net xs) candidates) j [] ≡ expand net xs u)

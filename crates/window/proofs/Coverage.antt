@@ -10,6 +10,7 @@ use native.Mathlib.Nat.{le-refl}
 use native.Mathlib.Omega.{arith}
 use borrow.Author.Tests.{le-leb, lt-leb}
 use lib.ListN.{getD, List·getD-eq-default}
+use Rattle.graph.specs.Lists.{_∈_}
 use Rattle.graph.specs.Literal.{varOf, isOdd}
 use Rattle.graph.specs.Graph.{Net, Graph, free, last, first, second, IsGate, Lawful}
 use Rattle.graph.specs.Sweep.{Kind, bools, turned, litValue, byGate, values, valueAt}
@@ -19,7 +20,8 @@ use Rattle.graph.proofs.Sweep.{values-length, values-top, values-at, byGate-gat
 use Rattle.window.specs.declared.Leaves.{Leaves}
 use Rattle.window.specs.Leaves.{leafList, leafPlace}
 use Rattle.window.specs.Local.{Covered, zero-is, leaf-is, gate-is, coverage, coveredOwn, covered, leafOwn, localAt}
-use Rattle.window.proofs.Members.{_∈_, at-place, leaf-found, leaf-missed}
+use Rattle.graph.proofs.Members.{at-place}
+use Rattle.window.proofs.Places.{leaf-found, leaf-missed}
 
 -- ---- induction from everything below
 

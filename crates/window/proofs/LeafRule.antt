@@ -14,7 +14,7 @@ use Rattle.graph.proofs.Lists.{at-most-or-above}
 use Rattle.window.specs.Leaves.{leafLimit, leafList, WellSet}
 use Rattle.window.specs.Local.{Covered}
 use Rattle.window.specs.LeafRule.{withFanins, expand, expansions, smallest, grow, ruleLeaves, picked}
-use Rattle.window.proofs.Members.{is-in}
+use Rattle.graph.proofs.Members.{is-in}
 use Rattle.window.proofs.LeafSets.{leaves-of-list, leaves-of-well-set}
 use Rattle.window.proofs.Weight.{weight, weightless}
 use Rattle.window.proofs.Smallest.{none-smallest}

@@ -1,7 +1,7 @@
 pub mod Bits
 pub mod Tables
 pub mod Patterns
-pub mod Members
+pub mod Places
 pub mod Coverage
 pub mod LeafSets
 pub mod Sets

@@ -10,11 +10,10 @@ use native.Mathlib.Omega.{arith}
 use borrow.Author.Tests.{ltb-true, ltb-false, eqb-true, eqb-false, lt-ltb, le-ltb, eq-eqb, ne-eqb}
 use lib.Dec.{ltb, eqb}
 use lib.ListN.{length, getD}
-use Rattle.graph.specs.Lists.{keep}
+use Rattle.graph.specs.Lists.{_∈_, here, later, keep}
 use Rattle.graph.proofs.Lists.{and-left, and-right, and-both}
 use Rattle.window.specs.Leaves.{ascendsFrom}
 use Rattle.window.specs.LeafRule.{put, insert, remove}
-use Rattle.window.proofs.Members.{_∈_, here, later}
 
 -- ---- ascending
 

@@ -1,0 +1,43 @@
+-- A gain of at least 1 is the number of gates in use that the replacement saves.
+-- Assumes nothing.
+use mathlib.Core.Path.{_≡_, refl, sym, ap, _∙_}
+use mathlib.Core.Bool.{Bool, true, false, cond, false≢true}
+use Prim.Native.Nat.{ℕ, suc, _+_, _-_, _≤_, _<_}
+use native.Mathlib.Omega.{arith}
+use borrow.Author.Tests.{ltb-true, ltb-false}
+use lib.Dec.{ltb}
+use lib.IntN.{ℤ, pos, negsuc, natAbs, subℕ}
+use Rattle.graph.specs.Graph.{Graph}
+use Rattle.graph.specs.Use.{usedGates}
+use Rattle.replace.specs.declared.Proposal.{Proposal}
+use Rattle.replace.specs.Rewire.{finished, gain, atLeastOne}
+
+-- a difference of at least 1 is a falling number
+at-least-one-falls : (a b : ℕ) → atLeastOne (subℕ a b) ≡ true → b < a
+unfolding atLeastOne
+at-least-one-falls a b e = go (ltb a b) refl e
+  where
+    go : (t : Bool) → ltb a b ≡ t → atLeastOne (cond t (negsuc (b - suc a)) (pos (a - b))) ≡ true → b < a
+    go true q h = absurd (false≢true h)
+    go false q h = let l = ltb-true 0 (a - b) h in omega (arith, ltb-false a b q)
+
+positive-difference : (a b n : ℕ) → subℕ a b ≡ pos n → 1 ≤ n → b + n ≡ a
+positive-difference a b n e h = go (ltb a b) refl e
+  where
+    go : (t : Bool) → ltb a b ≡ t → cond t (negsuc (b - suc a)) (pos (a - b)) ≡ pos n → b + n ≡ a
+    go true q d = absurd (false≢true (ap isPos d))
+      where
+        isPos : ℤ → Bool
+        isPos (pos m) = true
+        isPos (negsuc m) = false
+    go false q d = omega (arith, ap natAbs d, ltb-false a b q)
+
+module _ (g : Graph) (root : ℕ) (p : Proposal) where
+  pub gain-lowers : atLeastOne (gain g root p) ≡ true → usedGates (finished g root p) < usedGates g
+  unfolding gain
+  gain-lowers e = at-least-one-falls (usedGates g) (usedGates (finished g root p)) e
+
+  -- R falls by the gain
+  pub falls-by-gain : (n : ℕ) → gain g root p ≡ pos n → 1 ≤ n → usedGates (finished g root p) + n ≡ usedGates g
+  unfolding gain
+  falls-by-gain n e h = positive-difference (usedGates g) (usedGates (finished g root p)) n e h

@@ -1,0 +1,125 @@
+-- Gathered lists: how long they are, what stands at each place, and three of them in a row.
+-- Assumes nothing.
+use mathlib.Core.Path.{_≡_, refl, sym, ap, ap₂, _∙_, subst}
+use mathlib.Core.List.{List, [], _∷_, _++_, append-assoc, append-nil, flatMap}
+use mathlib.Core.Logic.{⊎-elim}
+use Prim.Native.Nat.{ℕ, zero, suc, _+_, _-_, _*_, _<_}
+use native.Mathlib.Nat.{not-suc-le-zero, le-refl, mul-le-mul-left}
+use native.Mathlib.Omega.{arith}
+use lib.ListN.{length, getD, length-append, List·getD-append}
+use lib.Seq.{getD-append-add, ext-getD}
+use Rattle.graph.specs.Lists.{gather}
+use Rattle.graph.proofs.Lists.{at-most-or-above}
+
+module _ {A : Type 0} where
+  -- f 0, f 1, .. f (n - 1)
+  abbrev pub listed : (ℕ → A) → ℕ → List A
+  listed f n = gather (λ k. f k ∷ []) n
+
+  pub gather-same : (f g : ℕ → List A) (n : ℕ) → ((k : ℕ) → k < n → f k ≡ g k) → gather f n ≡ gather g n
+  unfolding gather
+  gather-same f g zero h = refl
+  gather-same f g (suc n) h = ap₂ (λ (x y : List A). x ++ y) (gather-same f g n (λ k l. h k (omega arith))) (h n (le-refl (suc n)))
+
+  -- pieces of c elements each
+  module _ (c : ℕ) (f : ℕ → List A) (each : (k : ℕ) → length (f k) ≡ c) where
+    pub length-gather : (n : ℕ) → length (gather f n) ≡ c * n
+    unfolding gather
+    length-gather zero = omega arith
+    length-gather (suc n) = length-append (gather f n) (f n) ∙ omega (arith, length-gather n, each n)
+
+    pub getD-gather : (n k i : ℕ) (d : A) → k < n → i < c → getD (gather f n) (c * k + i) d ≡ getD (f k) i d
+    unfolding gather
+    getD-gather zero k i d h l = absurd (not-suc-le-zero h)
+    getD-gather (suc n) k i d h l = ⊎-elim
+        (λ (m : k < n). List·getD-append (gather f n) (f n) d (c * k + i) (omega (arith, length-gather n, mul-le-mul-left c m)) ∙ getD-gather n k i d m l)
+        (λ (m : n < suc k).
+        let q : k ≡ n = omega arith in
+        rw (q, ← length-gather n) (getD-append-add (gather f n) (f n) i d))
+        (at-most-or-above (suc k) n)
+
+    -- each place below c n is one of the c of one of the n
+    by-place : (P : ℕ → Type 0) (n : ℕ) → ((k i : ℕ) → k < n → i < c → P (c * k + i)) → (j : ℕ) → j < c * n → P j
+    by-place P zero p j h = absurd (omega arith)
+    by-place P (suc n) p j h = ⊎-elim
+        (λ (m : j < c * n). by-place P n (λ k i l. p k i (omega arith)) j m)
+        (λ (m : c * n < suc j). let e : c * n + (j - c * n) ≡ j = omega arith in subst P e (p n (j - c * n) (le-refl (suc n)) (omega arith)))
+        (at-most-or-above (suc j) (c * n))
+
+    pub gather-is : (xs : List A) (n : ℕ) (d : A) → length xs ≡ c * n → ((k i : ℕ) → k < n → i < c → getD xs (c * k + i) d ≡ getD (f k) i d) → xs ≡ gather f n
+    gather-is xs n d q h =
+        ext-getD d xs (gather f n) (q ∙ sym (length-gather n)) λ j l.
+        by-place (λ i. getD xs i d ≡ getD (gather f n) i d) n (λ k i m o. h k i m o ∙ sym (getD-gather n k i d m o)) j (omega arith)
+
+  pub length-listed : (f : ℕ → A) (n : ℕ) → length (listed f n) ≡ n
+  length-listed f n = length-gather 1 (λ k. f k ∷ []) (λ k. refl) n ∙ omega arith
+
+  pub getD-listed : (f : ℕ → A) (n k : ℕ) (d : A) → k < n → getD (listed f n) k d ≡ f k
+  getD-listed f n k d h =
+      let q : k ≡ 1 * k + 0 = omega arith in
+      ap (λ (i : ℕ). getD (listed f n) i d) q ∙ getD-gather 1 (λ k. f k ∷ []) (λ k. refl) n k 0 d h (omega arith)
+
+  pub listed-is : (xs : List A) (n : ℕ) (d : A) → length xs ≡ n → xs ≡ listed (λ k. getD xs k d) n
+  listed-is xs n d q = ext-getD d xs (listed (λ k. getD xs k d) n) (q ∙ sym (length-listed (λ k. getD xs k d) n)) (λ i h. sym (getD-listed (λ k. getD xs k d) n i d (omega arith)))
+
+-- what a function makes of each, joined
+module _ {A B : Type 0} (F : A → List B) where
+  pub flatMap-append : (xs ys : List A) → flatMap F (xs ++ ys) ≡ flatMap F xs ++ flatMap F ys
+  unfolding flatMap
+  flatMap-append [] ys = refl
+  flatMap-append (x ∷ xs) ys = ap (λ (zs : List B). F x ++ zs) (flatMap-append xs ys) ∙ sym (append-assoc (F x) (flatMap F xs) (flatMap F ys))
+
+  pub flatMap-listed : (f : ℕ → A) (n : ℕ) → flatMap F (listed f n) ≡ gather (λ k. F (f k)) n
+  unfolding flatMap gather
+  flatMap-listed f zero = refl
+  flatMap-listed f (suc n) = flatMap-append (listed f n) (f n ∷ []) ∙ ap₂ (λ (x y : List B). x ++ y) (flatMap-listed f n) (append-nil (F (f n)))
+
+-- ---- three in a row
+
+-- a number below a + b + c is one of the first a, of the next b, or of the last c
+pub by-part : (P : ℕ → Type 0) (a b c : ℕ) → ((k : ℕ) → k < a → P k) → ((k : ℕ) → k < b → P (a + k)) → ((k : ℕ) → k < c → P (a + b + k))
+    → (j : ℕ) → j < a + b + c → P j
+by-part P a b c p q r j h = ⊎-elim
+    (λ (m : j < a). p j m)
+    (λ (m : a < suc j). ⊎-elim
+    (λ (l : j < a + b). let e : a + (j - a) ≡ j = omega arith in subst P e (q (j - a) (omega arith)))
+    (λ (l : a + b < suc j). let e : a + b + (j - (a + b)) ≡ j = omega arith in subst P e (r (j - (a + b)) (omega arith)))
+    (at-most-or-above (suc j) (a + b)))
+    (at-most-or-above (suc j) a)
+
+module _ {A : Type 0} (f g h : ℕ → A) (a b c : ℕ) where
+  abbrev pub row : List A
+  row = listed f a ++ listed g b ++ listed h c
+
+  length-two : length (listed f a ++ listed g b) ≡ a + b
+  length-two = length-append (listed f a) (listed g b) ∙ ap₂ (λ (m n : ℕ). m + n) (length-listed f a) (length-listed g b)
+
+  pub length-row : length row ≡ a + b + c
+  length-row = length-append (listed f a ++ listed g b) (listed h c) ∙ ap₂ (λ (m n : ℕ). m + n) length-two (length-listed h c)
+
+  pub row-first : (k : ℕ) (d : A) → k < a → getD row k d ≡ f k
+  row-first k d l =
+      rw (List·getD-append (listed f a ++ listed g b) (listed h c) d k (omega (arith, length-two)), List·getD-append (listed f a) (listed g b) d k (omega (arith, length-listed f a)))
+      (getD-listed f a k d l)
+
+  pub row-second : (k : ℕ) (d : A) → k < b → getD row (a + k) d ≡ g k
+  row-second k d l =
+      List·getD-append (listed f a ++ listed g b) (listed h c) d (a + k) (omega (arith, length-two))
+      ∙ ap (λ (n : ℕ). getD (listed f a ++ listed g b) (n + k) d) (sym (length-listed f a))
+      ∙ getD-append-add (listed f a) (listed g b) k d
+      ∙ getD-listed g b k d l
+
+  pub row-third : (k : ℕ) (d : A) → k < c → getD row (a + b + k) d ≡ h k
+  row-third k d l =
+      ap (λ (n : ℕ). getD row (n + k) d) (sym length-two)
+      ∙ getD-append-add (listed f a ++ listed g b) (listed h c) k d
+      ∙ getD-listed h c k d l
+
+  pub row-is : (xs : List A) (d : A) → length xs ≡ a + b + c → ((k : ℕ) → k < a → getD xs k d ≡ f k) → ((k : ℕ) → k < b → getD xs (a + k) d ≡ g k)
+      → ((k : ℕ) → k < c → getD xs (a + b + k) d ≡ h k) → xs ≡ row
+  row-is xs d e p q r =
+      ext-getD d xs row (e ∙ sym length-row) λ i l.
+      by-part (λ j. getD xs j d ≡ getD row j d) a b c
+      (λ k m. p k m ∙ sym (row-first k d m))
+      (λ k m. q k m ∙ sym (row-second k d m))
+      (λ k m. r k m ∙ sym (row-third k d m)) i (omega arith)

@@ -1,0 +1,9 @@
+pub mod Numbers
+pub mod Lines
+pub mod Gathered
+pub mod Body
+pub mod States
+pub mod Fitting
+pub mod Spelling
+pub mod Reading
+pub mod RoundTrip

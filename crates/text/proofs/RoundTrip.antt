@@ -1,0 +1,60 @@
+-- The text that is written for a well-formed graph is short enough to be read, and reading it gives the graph back.
+-- Assumes nothing.
+use mathlib.Core.Path.{_≡_}
+use mathlib.Core.Bool.{Bool, false}
+use mathlib.Core.List.{List, [], _∷_, _++_, flatMap}
+use Prim.Native.Nat.{ℕ, suc, _*_, _≤_, _<_, zero-le, suc-le-suc}
+use native.Mathlib.Nat.{zero-lt-suc}
+use native.Mathlib.Omega.{arith}
+use lib.ListN.{length, getD, length-append}
+use Rattle.graph.specs.Graph.{Graph, WellFormed}
+use Rattle.text.specs.Number.{decimal}
+use Rattle.text.specs.Line.{separator, line}
+use Rattle.text.specs.States.{aag, textOf}
+use Rattle.text.specs.Reading.{headerOf, mostBytes, yields, reading}
+use Rattle.text.proofs.Numbers.{decimal-short}
+use Rattle.text.proofs.Body.{counts, linesOf, lines-count, text-is, lines-fit}
+use Rattle.text.proofs.States.{text-of-states}
+use Rattle.text.proofs.Fitting.{lines-narrow, mostStated, counts-small, numbers-small}
+use Rattle.text.proofs.Reading.{reading-iff}
+
+-- four digits and a byte after them
+line-short : (ns : List ℕ) → ((i : ℕ) → getD ns i 0 ≤ mostStated) → length (line ns) ≤ 5 * length ns
+unfolding line
+line-short [] h = zero-le
+line-short (x ∷ ns) h =
+    rw (length-append (decimal x) (separator (length ns) ∷ line ns))
+    (omega (arith, decimal-short 3 x (omega (arith, h 0)), line-short ns (λ i. h (suc i))))
+
+lines-short : (c : ℕ) (nss : List (List ℕ)) → ((j : ℕ) → j < length nss → length (line (getD nss j [])) ≤ c) → length (flatMap line nss) ≤ c * length nss
+unfolding flatMap
+lines-short c [] h = zero-le
+lines-short c (ns ∷ nss) h =
+    rw (length-append (line ns) (flatMap line nss))
+    (omega (arith, h 0 (zero-lt-suc (length nss)), lines-short c nss (λ j l. h (suc j) (suc-le-suc l))))
+
+abbrev unswapped : ℕ → Bool
+unswapped k = false
+
+text-of-is : (g : Graph) → textOf g ≡ aag ++ (line (counts g) ++ (flatMap line (linesOf g unswapped) ++ []))
+unfolding textOf
+text-of-is g = text-is g unswapped []
+
+pub text-of-short : (g : Graph) → WellFormed g → length (textOf g) ≤ mostBytes
+text-of-short g w =
+    rw (text-of-is g, length-append (line (counts g)) (flatMap line (linesOf g unswapped) ++ []), length-append (flatMap line (linesOf g unswapped)) [])
+    (omega (
+      arith,
+      w,
+      line-short (counts g) (counts-small g w),
+      lines-count g unswapped,
+      lines-short 15 (linesOf g unswapped) (λ j l.
+          omega (
+            arith,
+            line-short (getD (linesOf g unswapped) j []) (numbers-small g w unswapped j l),
+            lines-narrow (headerOf (counts g)) (linesOf g unswapped) (lines-fit g unswapped (w .lawful)) j l,
+          )),
+    ))
+
+pub round-trip : (g : Graph) → WellFormed g → reading (textOf g) ≡ yields g
+round-trip g w = reading-iff (textOf g) g .1 (record { states = text-of-states g (w .lawful); well-formed = w; few-bytes = text-of-short g w })
