@@ -1,0 +1,142 @@
+-- The run: its count of steps is no cut-off, it ends where no gate has a good replacement, and every output keeps its value.
+-- Assumes nothing.
+use mathlib.Core.Path.{_≡_, refl, sym, ap, _∙_, subst}
+use mathlib.Core.Bool.{Bool}
+use mathlib.Core.Option.{Option, none, some}
+use Prim.Native.Nat.{ℕ, zero, suc, _+_, _≤_, _<_}
+use native.Mathlib.Nat.{le-refl}
+use native.Mathlib.Omega.{arith}
+use Rattle.graph.specs.Graph.{Graph, size, IsGate, Lawful, WellFormed}
+use Rattle.graph.specs.Use.{usedGates}
+use Rattle.graph.specs.Drop.{dropped}
+use Rattle.graph.specs.Evaluate.{outputsUnder}
+use Rattle.graph.proofs.Drop.{AllReached, all-used, dropped-well-formed, dropped-all-reached}
+use Rattle.graph.proofs.DropKeeps.{dropped-keeps-outputs}
+use Rattle.window.specs.LeafRule.{picked}
+use Rattle.window.proofs.Coverage.{covered-iff}
+use Rattle.window.proofs.LeafRule.{picked-well-set, picked-cuts}
+use Rattle.replace.specs.Rewire.{rewired, finished}
+use Rattle.replace.proofs.Allowed.{allowed-facts}
+use Rattle.replace.proofs.Rewire.{rewired-lawful}
+use Rattle.replace.proofs.Replacement.{Fits, finished-well-formed, finished-keeps-outputs}
+use Rattle.replace.proofs.Gain.{falls-by-gain}
+use Rattle.listing.specs.Listing.{proposalOf, GoodRecord}
+use Rattle.listing.proofs.TheList.{listed-is}
+use Rattle.run.specs.Run.{step, End, stepsFrom, run, NoneAt, Step, Steps, ends, goes-on}
+use Rattle.run.proofs.Greatest.{greatest-in}
+use Rattle.run.proofs.Step.{step-is, no-step}
+
+-- what holds before and after each step
+pub record Ready (g : Graph) : Type 0 where
+  pub well-formed : WellFormed g
+  pub all-reached : AllReached g
+
+-- ---- one step
+
+module _ (g h : Graph) (ready : Ready g) (s : Step g h) where
+  good : GoodRecord g (s .root) (picked (g .net) (s .root)) (s .best)
+  good = listed-is g (s .root) (picked (g .net) (s .root)) .holds (s .best) .0 (greatest-in (s .is-best))
+
+  lawful : Lawful g
+  lawful = ready .well-formed .lawful
+
+  fits : Fits g (s .root) (picked (g .net) (s .root)) (proposalOf (s .best))
+  fits = record {
+    lawful = lawful;
+    gate = s .is-gate;
+    few = picked-well-set g lawful (s .root) (s .is-gate) .few;
+    cut = covered-iff g lawful (picked (g .net) (s .root)) (s .root) (s .is-gate .within) .1 (picked-cuts g lawful (s .root) (s .is-gate));
+    rule = allowed-facts (g .net) (s .root) (picked (g .net) (s .root)) (proposalOf (s .best)) (good .keeps-rule);
+    equal = good .equals;
+  }
+
+  finished-ready : Ready (finished g (s .root) (proposalOf (s .best)))
+  finished-ready = record {
+    well-formed = finished-well-formed g (s .root) (picked (g .net) (s .root)) (proposalOf (s .best)) fits (ready .well-formed);
+    all-reached = unfold finished in
+        dropped-all-reached (rewired g (s .root) (proposalOf (s .best)))
+        (rewired-lawful g lawful (s .root) (s .is-gate) (picked (g .net) (s .root)) (proposalOf (s .best)) (fits .rule));
+  }
+
+  pub step-ready : Ready h
+  step-ready = subst Ready (sym (s .becomes)) finished-ready
+
+  -- R falls by the gain of the record taken
+  pub step-lowers : usedGates h + s .best .gain ≡ usedGates g
+  step-lowers =
+      ap (λ (e : Graph). usedGates e + s .best .gain) (s .becomes)
+      ∙ falls-by-gain g (s .root) (proposalOf (s .best)) (s .best .gain) (good .gain-is) (good .at-least-one)
+
+  pub step-shrinks : size (h .net) < size (g .net)
+  step-shrinks =
+      let b = good .at-least-one in
+      omega (arith, step-lowers, all-used g lawful (ready .all-reached), all-used h (step-ready .well-formed .lawful) (step-ready .all-reached))
+
+  pub step-keeps-outputs : (a : ℕ → Bool) → outputsUnder h a ≡ outputsUnder g a
+  step-keeps-outputs a =
+      ap (λ (e : Graph). outputsUnder e a) (s .becomes)
+      ∙ finished-keeps-outputs g (s .root) (picked (g .net) (s .root)) (proposalOf (s .best)) fits a
+
+-- ---- all steps
+
+no-gate : (g : Graph) → size (g .net) ≤ 0 → (v : ℕ) → ¬ IsGate (g .net) v
+no-gate g b v i = let l = i .above in let h = i .within in absurd (omega arith)
+
+-- steps lead from g to the end e, and they are counted on from `made`
+abbrev Counted : Graph → ℕ → End → Type 0
+Counted g made e = (k : ℕ) × Steps g k (e .graph) × (e .made ≡ k + made)
+
+-- a step lowers the number of gates, so as many steps as there are gates are enough
+steps-from : (n : ℕ) (g : Graph) (made : ℕ) → Ready g → size (g .net) ≤ n → Counted g made (stepsFrom n g made)
+unfolding stepsFrom
+steps-from zero g made r b = (0, ends (λ v i. absurd (no-gate g b v i)), omega arith)
+steps-from (suc n) g made r b = go (step g) refl (λ h. steps-from n h (suc made))
+  where
+    go : (o : Option Graph) → step g ≡ o → ((h : Graph) → Ready h → size (h .net) ≤ n → Counted h (suc made) (stepsFrom n h (suc made)))
+        → Counted g made (elim o [ some h ↦ stepsFrom n h (suc made) | none ↦ record { graph = g; made = made } ])
+    go none e rest = (0, ends (no-step g e), omega arith)
+    go (some h) e rest =
+        let s = step-is g h e in
+        let t = rest h (step-ready g h r s) (let l = step-shrinks g h r s in omega arith) in
+        (suc (t .0), goes-on s (t .1), omega (arith, t .2))
+
+dropped-ready : (g : Graph) → WellFormed g → Ready (dropped g)
+dropped-ready g w = record { well-formed = dropped-well-formed g (w .lawful) w; all-reached = dropped-all-reached g (w .lawful) }
+
+-- the run makes just the steps that there are, and counts them
+pub run-steps : (g : Graph) → WellFormed g → Steps (dropped g) (run g .made) (run g .graph)
+unfolding run
+run-steps g w =
+    let s = steps-from (size (dropped g .net)) (dropped g) 0 (dropped-ready g w) (le-refl _) in
+    let e : s .0 ≡ stepsFrom (size (dropped g .net)) (dropped g) 0 .made = omega (arith, s .2) in
+    subst (λ (k : ℕ). Steps (dropped g) k (stepsFrom (size (dropped g .net)) (dropped g) 0 .graph)) e (s .1)
+
+-- ---- what steps keep, the run keeps
+
+steps-end : {g e : Graph} {n : ℕ} → Steps g n e → (v : ℕ) → IsGate (e .net) v → NoneAt e v
+steps-end (ends h) = h
+steps-end (goes-on s t) = steps-end t
+
+steps-ready : {g e : Graph} {n : ℕ} → Steps g n e → Ready g → Ready e
+steps-ready (ends h) r = r
+steps-ready (goes-on {g} {h} s t) r = steps-ready t (step-ready g h r s)
+
+steps-keep-outputs : {g e : Graph} {n : ℕ} → Steps g n e → Ready g → (a : ℕ → Bool) → outputsUnder e a ≡ outputsUnder g a
+steps-keep-outputs (ends h) r a = refl
+steps-keep-outputs (goes-on {g} {h} s t) r a = steps-keep-outputs t (step-ready g h r s) a ∙ step-keeps-outputs g h r s a
+
+module _ (g : Graph) (w : WellFormed g) where
+  pub run-ends : (v : ℕ) → IsGate (run g .graph .net) v → NoneAt (run g .graph) v
+  run-ends = steps-end (run-steps g w)
+
+  run-ready : Ready (run g .graph)
+  run-ready = steps-ready (run-steps g w) (dropped-ready g w)
+
+  pub run-well-formed : WellFormed (run g .graph)
+  run-well-formed = run-ready .well-formed
+
+  pub run-all-reached : AllReached (run g .graph)
+  run-all-reached = run-ready .all-reached
+
+  pub run-keeps-outputs : (a : ℕ → Bool) → outputsUnder (run g .graph) a ≡ outputsUnder g a
+  run-keeps-outputs a = steps-keep-outputs (run-steps g w) (dropped-ready g w) a ∙ dropped-keeps-outputs g (w .lawful) a
