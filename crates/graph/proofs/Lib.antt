@@ -1,5 +1,6 @@
 pub mod Lists
 pub mod Members
+pub mod Gather
 pub mod WellFormed
 pub mod Sweep
 pub mod Values
@@ -10,3 +11,4 @@ pub mod Stand
 pub mod Drop
 pub mod DropKeeps
 pub mod Refusals
+pub mod EvaluateRefusals

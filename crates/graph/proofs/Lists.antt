@@ -1,17 +1,16 @@
 -- What a test over a list or over the numbers below n says of each of them, and the other way round.
 -- Assumes nothing.
-use mathlib.Core.Path.{_≡_, refl, sym, ap, ap₂, _∙_}
+use mathlib.Core.Path.{_≡_, refl, sym, ap, ap₂, _∙_, subst}
 use mathlib.Core.Bool.{Bool, true, false, cond, _&&_, false≢true}
 use mathlib.Core.List.{List, [], _∷_, _++_, map}
 use mathlib.Core.Logic.{_⊎_, inl, inr, ⊎-elim}
-use Prim.Native.Nat.{ℕ, zero, suc, _+_, _*_, _≤_, _<_}
+use Prim.Native.Nat.{ℕ, zero, suc, _+_, _≤_, _<_}
 use native.Mathlib.Nat.{le-of-suc-le-suc, not-suc-le-zero, le-refl, zero-lt-suc}
 use native.Mathlib.Omega.{arith}
 use borrow.Author.Tests.{leb-true, leb-false, eqb-true, eqb-false}
 use lib.Dec.{leb, eqb}
-use lib.ListN.{length, getD, length-append, List·getD-append}
-use lib.Seq.{getD-append-add}
-use Rattle.graph.specs.Lists.{gather, every, allBelow, all, keep}
+use lib.ListN.{length, getD}
+use Rattle.graph.specs.Lists.{every, allBelow, all, keep}
 
 pub at-most-or-above : (a b : ℕ) → (a ≤ b) ⊎ (b < a)
 at-most-or-above a b = go (leb a b) refl
@@ -19,6 +18,17 @@ at-most-or-above a b = go (leb a b) refl
     go : (t : Bool) → leb a b ≡ t → (a ≤ b) ⊎ (b < a)
     go true e = inl (leb-true a b e)
     go false e = inr (leb-false a b e)
+
+-- induction from everything below
+up-to : (P : ℕ → Type 0) → P 0 → ((n : ℕ) → ((v : ℕ) → v ≤ n → P v) → P (suc n)) → (n v : ℕ) → v ≤ n → P v
+up-to P z s zero v h = let e : 0 ≡ v = omega arith in subst P e z
+up-to P z s (suc n) v h = ⊎-elim
+    (λ l. up-to P z s n v l)
+    (λ l. let e : suc n ≡ v = omega arith in subst P e (s n (up-to P z s n)))
+    (at-most-or-above v n)
+
+pub strong : (P : ℕ → Type 0) → P 0 → ((n : ℕ) → ((v : ℕ) → v ≤ n → P v) → P (suc n)) → (v : ℕ) → P v
+strong P z s v = up-to P z s v v (le-refl v)
 
 pub equal-or-not : (a b : ℕ) → (a ≡ b) ⊎ (¬ (a ≡ b))
 equal-or-not a b = go (eqb a b) refl
@@ -117,38 +127,3 @@ module _ {A : Type 0} (f : A → Bool) where
       go : (b : Bool) → length {A = A} (elim b [ true ↦ x ∷ [] | false ↦ [] ]) ≡ cond b 1 0
       go true = refl
       go false = refl
-
--- ---- pieces joined
-
-module _ {A : Type 0} (f : ℕ → List A) where
-  gather-more : (k n : ℕ) → k ≤ n → length (gather f k) ≤ length (gather f n)
-  unfolding gather
-  gather-more k zero h = let e : k ≡ 0 = omega arith in rw e (le-refl _)
-  gather-more k (suc n) h = ⊎-elim
-      (λ l. let m = gather-more k n l in omega (arith, length-append (gather f n) (f n)))
-      (λ l. let e : k ≡ suc n = omega arith in rw e (le-refl _)) (at-most-or-above k n)
-
-  -- piece k stands behind the pieces before it
-  pub gather-at : (n k i : ℕ) (d : A) → k < n → i < length (f k) → getD (gather f n) (length (gather f k) + i) d ≡ getD (f k) i d
-  unfolding gather
-  gather-at zero k i d h b = absurd (omega arith)
-  gather-at (suc n) k i d h b = ⊎-elim
-      (λ l.
-      List·getD-append (gather f n) (f n) d (length (gather f k) + i) (let m = gather-more (suc k) n l in omega (arith, length-append (gather f k) (f k)))
-      ∙ gather-at n k i d l b)
-      (λ l.
-      let e : k ≡ n = omega arith in
-      ap (λ (j : ℕ). getD (gather f n ++ f n) (length (gather f j) + i) d) e
-      ∙ getD-append-add (gather f n) (f n) i d
-      ∙ ap (λ (j : ℕ). getD (f j) i d) (sym e))
-      (at-most-or-above (suc k) n)
-
-  -- where each piece has two elements
-  pub pairs-length : ((k : ℕ) → length (f k) ≡ 2) → (n : ℕ) → length (gather f n) ≡ 2 * n
-  unfolding gather
-  pairs-length two zero = refl
-  pairs-length two (suc n) = length-append (gather f n) (f n) ∙ omega (arith, pairs-length two n, two n)
-
-  pub pairs-at : ((k : ℕ) → length (f k) ≡ 2) → (n k i : ℕ) (d : A) → k < n → i < 2 → getD (gather f n) (2 * k + i) d ≡ getD (f k) i d
-  pairs-at two n k i d h b =
-      ap (λ (j : ℕ). getD (gather f n) (j + i) d) (sym (pairs-length two k)) ∙ gather-at n k i d h (omega (arith, two k))

@@ -7,7 +7,7 @@ use mathlib.Core.Logic.{_↔_, _⊎_, inl, inr, ⊎-elim}
 use mathlib.Core.Option.{Option, none, some, Option·some-injective, Option·none-ne-some, Option·some-ne-none, orElse}
 use Prim.Native.Nat.{ℕ, _≤_, _<_}
 use native.Mathlib.Omega.{arith}
-use borrow.Author.Tests.{leb-true, ltb-true, lt-ltb, le-leb, eqb-true, eq-eqb, not-true, not-false}
+use borrow.Author.Tests.{leb-true, ltb-true, lt-ltb, eqb-true, eq-eqb, not-true, not-false}
 use lib.Dec.{leb, ltb, eqb}
 use lib.ListN.{length, getD}
 use Rattle.graph.specs.declared.refusal.Refusal.{Refusal}
@@ -31,10 +31,8 @@ use Rattle.graph.specs.declared.refusal.Refusal.the-variants.{
 }
 use Rattle.graph.specs.Refuse.{Row, firstRefusal, numberOf, Lowest}
 use Rattle.graph.specs.Lent.{short, Buffers, noRoomFor, NoRoomFor, few-gate-words, few-output-words}
-use Rattle.graph.specs.Graph.{Net, Graph, free, sinks}
-use Rattle.graph.specs.Evaluate.{isAssignment, Assignment, EvaluateGiven, bad-graph, bad-assignment, no-room, evaluateRefusals, evaluateEffect, evaluatedOutcome}
-use Rattle.graph.proofs.Lists.{at-most-or-above, and-left, and-right, and-both, all-at, all-of}
-use Rattle.graph.proofs.WellFormed.{well-formed-iff}
+use Rattle.graph.specs.Graph.{Graph}
+use Rattle.graph.proofs.Lists.{at-most-or-above, and-left, and-right}
 
 -- ---- numbers and names
 
@@ -129,6 +127,13 @@ module _ {given : Refusal → Type 0} where
   settles-number (gives {r = q} l) n h k r = (λ e. subst (Lowest given) (numberOf-injective q r (sym (h q refl) ∙ e)) l, λ m. h q refl ∙ ap numberOf (lowest-one l m))
   settles-number (clears c) n h k r = (λ e. absurd (numberOf-not-zero r (sym (k refl) ∙ e)), λ m. absurd (c r (m .holds)))
 
+-- a part that has all that is lower settles first, and the rest where nothing of the part is given
+pub settles-then : {part whole : Refusal → Type 0} {o p : Option Refusal} → ((q : Refusal) → part q → whole q) → ((q r : Refusal) → whole q → part r → numberOf q < numberOf r → part q) → Settles part o → (((q : Refusal) → ¬ part q) → Settles whole p) → Settles whole (orElse o p)
+unfolding orElse
+settles-then wider lower (gives {r} l) s =
+    gives (record { holds = wider r (l .holds); none-lower = λ q h w. l .none-lower q h (lower q r w (l .holds) h) })
+settles-then wider lower (clears c) s = s c
+
 -- ---- a table of rows in ascending order
 
 -- the rows' numbers ascend, all above n
@@ -165,7 +170,7 @@ module _ (n : ℕ) where
       )
 
   -- a part of a table
-  pub silent-left : (xs ys : List Row) → Silent n (xs ++ ys) → Silent n xs
+  silent-left : (xs ys : List Row) → Silent n (xs ++ ys) → Silent n xs
   silent-left [] ys s = tt
   silent-left (x ∷ xs) ys s = (s .0, silent-left xs ys (s .1))
 
@@ -195,6 +200,16 @@ module _ {given : Refusal → Type 0} where
   pub first-none : {rows : List Row} → Decides given rows → (firstRefusal rows ≡ none) ↔ ((q : Refusal) → ¬ given q)
   first-none d = settles-none (first-settles d)
 
+-- where no refusal is given no test holds
+pub none-silent : (n : ℕ) (rows : List Row) → firstRefusal rows ≡ none → Silent n rows
+unfolding firstRefusal
+none-silent n [] e = tt
+none-silent n (row ∷ rows) e = go (row .holds) refl e (none-silent n rows)
+  where
+    go : (t : Bool) → row .holds ≡ t → cond t (some (row .refusal)) (firstRefusal rows) ≡ none → (firstRefusal rows ≡ none → Silent n rows) → Silent n (row ∷ rows)
+    go true h k below = absurd (Option·some-ne-none (row .refusal) k)
+    go false h k below = (λ _. h, below k)
+
 -- ---- a table that goes on with further rows
 
 -- the first rows decide, and the further ones where none of those holds
@@ -207,6 +222,15 @@ first-join (x ∷ xs) ys = go (x .holds) (first-join xs ys)
         → cond t (some (x .refusal)) (firstRefusal (xs ++ ys)) ≡ orElse (cond t (some (x .refusal)) (firstRefusal xs)) (firstRefusal ys)
     go true e = refl
     go false e = e
+
+-- nor in a part of the table
+pub none-parts : (xs ys : List Row) → firstRefusal (xs ++ ys) ≡ none → (firstRefusal xs ≡ none) × (firstRefusal ys ≡ none)
+unfolding orElse
+none-parts xs ys e = go (firstRefusal xs) (sym (first-join xs ys) ∙ e)
+  where
+    go : (o : Option Refusal) → orElse o (firstRefusal ys) ≡ none → (o ≡ none) × (firstRefusal ys ≡ none)
+    go none h = (refl, h)
+    go (some r) h = absurd (Option·some-ne-none r h)
 
 module _ {given whole : Refusal → Type 0} (wider : (q : Refusal) → given q → whole q) where
   sound-join : (xs ys : List Row) → Sound given xs → (firstRefusal xs ≡ none → Sound whole ys) → Sound whole (xs ++ ys)
@@ -259,37 +283,3 @@ no-room-iff g b =
     sides : NoRoomFor g b → (length (b .gates) < length (g .net .gates)) ⊎ (length (b .outputs) < length (g .outputs))
     sides (few-gate-words h) = inl h
     sides (few-output-words h) = inr h
-
--- ---- evaluating
-
-pub assignment-iff : (net : Net) (vs : List ℕ) → (isAssignment net vs ≡ true) ↔ Assignment net vs
-unfolding isAssignment
-assignment-iff net vs = (
-  λ e. record { count = eqb-true _ _ (and-left (eqb (length vs) (free net)) _ e); each = λ j h. leb-true _ _ (all-at (λ x. leb x 1) 0 vs (and-right (eqb (length vs) (free net)) _ e) j h) },
-  λ a. and-both _ _ (eq-eqb _ _ (a .count)) (all-of (λ x. leb x 1) 0 vs (λ j h. le-leb _ _ (a .each j h))),
-)
-
-module _ (g : Graph) (vs lent : List ℕ) where
-  evaluate-complete : (q : Refusal) → EvaluateGiven g vs lent q → ¬ Silent (numberOf q) (evaluateRefusals g vs lent)
-  unfolding evaluateRefusals numberOf
-  evaluate-complete q (bad-graph h) s = h (denial-off _ (well-formed-iff g) (s .0 refl))
-  evaluate-complete q (bad-assignment h) s = h (denial-off _ (assignment-iff (g .net) vs) (s .1 .0 refl))
-  evaluate-complete q (no-room h) s = test-off _ (short-iff (length (sinks g)) lent) (s .1 .1 .0 refl) h
-
-  evaluate-decides : Decides (EvaluateGiven g vs lent) (evaluateRefusals g vs lent)
-  unfolding evaluateRefusals ascends
-  evaluate-decides = record {
-    ascending = refl;
-    sound = (
-      λ e. bad-graph (denial-on _ (well-formed-iff g) e),
-      λ _. (
-        λ e. bad-assignment (denial-on _ (assignment-iff (g .net) vs) e),
-        λ _. (λ e. no-room (short-iff (length (sinks g)) lent .0 e), λ _. tt),
-      ),
-    );
-    complete = evaluate-complete;
-  }
-
-  pub evaluate-refuses : (r : Refusal) → ((evaluatedOutcome ((evaluateEffect g vs lent) .answer)) .number ≡ numberOf r) ↔ Lowest (EvaluateGiven g vs lent) r
-  unfolding evaluateEffect evaluatedOutcome
-  evaluate-refuses = settles-number (first-settles evaluate-decides) _ (λ q e. rw (e, evaluateEffect)) (λ e. rw (e, evaluateEffect))

@@ -14,7 +14,8 @@ use Rattle.graph.specs.Literal.{varOf}
 use Rattle.graph.specs.Graph.{Net, free, size, last, first, second, IsGate}
 use Rattle.graph.specs.Use.{countMarks}
 use Rattle.graph.specs.Drop.{newNumber, renumbered, keptGate, keptNet}
-use Rattle.graph.proofs.Lists.{at-most-or-above, true-or-false, gather-at}
+use Rattle.graph.proofs.Lists.{at-most-or-above, true-or-false}
+use Rattle.graph.proofs.Gather.{gather-at}
 use Rattle.graph.proofs.Marks.{Marked}
 
 module _ (net : Net) (ms : List Bool) where

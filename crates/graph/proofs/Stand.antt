@@ -5,14 +5,13 @@ use mathlib.Core.Path.{_≡_, refl, sym, ap, ap₂, _∙_}
 use mathlib.Core.Bool.{Bool, true, false, not, _&&_, and-comm, Bool·not-not}
 use mathlib.Core.Logic.{_⊎_, inl, inr, ⊎-elim}
 use Prim.Native.Nat.{ℕ, zero, suc, _*_, _%_, _≤_, _<_}
-use native.Mathlib.Nat.{le-refl}
 use native.Mathlib.Omega.{arith}
 use lib.Dec.{eqb}
 use Rattle.graph.specs.Literal.{varOf, isOdd, flip}
 use Rattle.graph.specs.Graph.{Net, free, first, second}
 use Rattle.graph.specs.Sweep.{bools, turned}
 use Rattle.graph.specs.Evaluate.{valueUnder, literalUnder}
-use Rattle.graph.proofs.Lists.{at-most-or-above}
+use Rattle.graph.proofs.Lists.{at-most-or-above, strong}
 use Rattle.graph.proofs.Values.{value-zero, value-input, value-gate}
 
 -- ---- complements
@@ -86,7 +85,8 @@ module _ (net net′ : Net) (stand : ℕ → ℕ) where
     pub all-carry : (counts : ℕ → Type 0) → free net ≡ free net′ → ((v : ℕ) → v ≤ free net → stand v ≡ 2 * v)
         → ((v : ℕ) → free net < v → counts v → ((u : ℕ) → u < v → counts u → Carries u) → Carries v)
         → (v : ℕ) → counts v → Carries v
-    all-carry counts same low gate v c = below (suc v) v (le-refl (suc v)) c
+    all-carry counts same low gate = strong (λ v. counts v → Carries v) (λ c. input 0 (omega arith))
+        (λ n below c. ⊎-elim (λ l. input (suc n) l) (λ l. gate (suc n) l c (λ u b. below u (omega arith))) (at-most-or-above (suc n) (free net)))
       where
         input : (v : ℕ) → v ≤ free net → Carries v
         input zero h = ap (literalUnder net′ a) (low 0 h) ∙ plain-value net′ a 0 ∙ value-zero net′ a ∙ sym (value-zero net a)
@@ -95,7 +95,3 @@ module _ (net net′ : Net) (stand : ℕ → ℕ) where
             ∙ plain-value net′ a (suc v)
             ∙ value-input net′ a (suc v) (omega arith) (omega (arith, same))
             ∙ sym (value-input net a (suc v) (omega arith) h)
-
-        below : (n v : ℕ) → v < n → counts v → Carries v
-        below zero v h c = absurd (omega arith)
-        below (suc n) v h c = ⊎-elim (λ l. input v l) (λ l. gate v l c (λ u b. below n u (omega arith))) (at-most-or-above v (free net))

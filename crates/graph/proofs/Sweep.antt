@@ -59,6 +59,19 @@ module _ {A : Type 0} (K : Kind A) (net : Net) (v : ℕ) (vs : List A) where
   unfolding byGate
   byGate-gate h = rw (lt-leb v (free net) h)
 
+module _ {A : Type 0} (K : Kind A) (own : ℕ → Option A) (net : Net) (n : ℕ) where
+  pub own-value : (x : A) → own (suc n) ≡ some x → valueAt K own net (suc n) ≡ x
+  unfolding valueAt
+  own-value x e = values-top K own net n (K .no) ∙ ap (λ (o : Option A). Option·getD o (byGate K net (suc n) (values K own net n))) e
+
+  pub gate-value : own (suc n) ≡ none → free net < suc n
+      → valueAt K own net (suc n) ≡ K .conj (litValue K (values K own net n) (first net (suc n))) (litValue K (values K own net n) (second net (suc n)))
+  unfolding valueAt
+  gate-value e h =
+      values-top K own net n (K .no)
+      ∙ ap (λ (o : Option A). Option·getD o (byGate K net (suc n) (values K own net n))) e
+      ∙ byGate-gate K net (suc n) (values K own net n) h
+
 -- ---- what the values depend on: own values and the gates' literals, up to the variable asked for
 
 pub record SameUpTo (net net′ : Net) (n : ℕ) : Type 0 where

@@ -3,3 +3,4 @@ pub mod Sorted
 pub mod Order
 pub mod Candidates
 pub mod TheList
+pub mod Refusals

@@ -3,3 +3,4 @@ pub mod Allowed
 pub mod Rewire
 pub mod Replacement
 pub mod Gain
+pub mod Refusals

@@ -8,15 +8,13 @@ use Prim.Native.Nat.{ℕ, _+_, _*_, _%_, _≤_, _<_, max, min}
 use native.Mathlib.Omega.{arith}
 use borrow.Author.Tests.{eq-eqb, ne-eqb}
 use lib.Dec.{eqb}
-use lib.ListN.{length-map}
 use Rattle.graph.specs.Literal.{varOf, isOdd, flip}
-use Rattle.graph.specs.Graph.{Net, Graph, sinks, first, second, IsGate, Lawful, WellFormed}
+use Rattle.graph.specs.Graph.{Net, Graph, sinks, first, second, IsGate, Lawful}
 use Rattle.graph.specs.Sweep.{bools, turned, litValue}
 use Rattle.graph.specs.Evaluate.{valueUnder, literalUnder, valuesUnder, outputsUnder}
 use Rattle.graph.proofs.Lists.{at-most-or-above, equal-or-not, map-same}
 use Rattle.graph.proofs.Values.{literal-value, value-gate}
 use Rattle.graph.proofs.Stand.{moved, Copies, in-order, exchanged}
-use Rattle.graph.proofs.Drop.{dropped-well-formed}
 use Rattle.graph.proofs.DropKeeps.{dropped-keeps-outputs}
 use Rattle.window.specs.declared.Leaves.{Leaves}
 use Rattle.window.specs.Leaves.{leafLimit}
@@ -155,16 +153,3 @@ module _ (g : Graph) (root : ℕ) (w : Leaves) (p : Proposal) (fits : Fits g roo
   pub finished-keeps-outputs : (a : ℕ → Bool) → outputsUnder (finished g root p) a ≡ outputsUnder g a
   unfolding finished g′
   finished-keeps-outputs a = dropped-keeps-outputs (rewired g root p) lawful′ a ∙ rewired-keeps-outputs a
-
-  rewired-well-formed : WellFormed g → WellFormed g′
-  unfolding g′
-  rewired-well-formed ok = record {
-    lawful = lawful′;
-    inputs-few = unfold rewired in rw (rewired-free (g .net) root p) (ok .inputs-few);
-    outputs-few = unfold rewired in rw (length-map (sinks g) (redirected root p)) (ok .outputs-few);
-    gates-few = unfold rewired in rw (rewired-size (g .net) root p) (ok .gates-few);
-  }
-
-  pub finished-well-formed : WellFormed g → WellFormed (finished g root p)
-  unfolding finished g′
-  finished-well-formed ok = dropped-well-formed (rewired g root p) lawful′ (rewired-well-formed ok)

@@ -10,12 +10,14 @@ use borrow.Author.Tests.{eq-eqb, ne-eqb}
 use lib.Dec.{eqb}
 use lib.ListN.{length, getD, length-map, List·getD-map}
 use Rattle.graph.specs.Literal.{varOf, flip}
-use Rattle.graph.specs.Graph.{Net, Graph, free, size, last, sinks, first, second, largerFirst, IsGate, Lawful}
-use Rattle.graph.proofs.Lists.{equal-or-not, pairs-length, pairs-at}
+use Rattle.graph.specs.Graph.{Net, Graph, free, size, last, sinks, first, second, largerFirst, IsGate, Lawful, WellFormed}
+use Rattle.graph.proofs.Lists.{equal-or-not}
+use Rattle.graph.proofs.Gather.{length-gather, getD-gather}
+use Rattle.graph.proofs.Drop.{dropped-well-formed}
 use Rattle.window.specs.declared.Leaves.{Leaves}
 use Rattle.replace.specs.declared.Proposal.{Proposal}
 use Rattle.replace.specs.Proposal.{Allowed, a-literal, an-and}
-use Rattle.replace.specs.Rewire.{standIn, redirected, rootGates, rewiredGate, rewiredNet, rewired}
+use Rattle.replace.specs.Rewire.{standIn, redirected, rootGates, rewiredGate, rewiredNet, rewired, finished}
 
 -- ---- by kind
 
@@ -49,7 +51,7 @@ module _ (net : Net) (root : ℕ) (p : Proposal) where
 
   pub rewired-length : length (rewiredNet net root p .gates) ≡ 2 * size net
   unfolding rewiredNet
-  rewired-length = pairs-length (λ k. rewiredGate net root p (suc (free net + k))) (λ k. two (suc (free net + k))) (size net)
+  rewired-length = length-gather 2 (λ k. rewiredGate net root p (suc (free net + k))) (λ k. two (suc (free net + k))) (size net)
 
   pub rewired-size : size (rewiredNet net root p) ≡ size net
   rewired-size = omega (arith, rewired-length)
@@ -65,7 +67,7 @@ module _ (net : Net) (root : ℕ) (p : Proposal) where
         let a = i .above in
         let b = i .within in
         let e : suc (free net + (v - suc (free net))) ≡ v = omega arith in
-        pairs-at (λ k. rewiredGate net root p (suc (free net + k))) (λ k. two (suc (free net + k))) (size net) (v - suc (free net)) j 0 (omega arith) h
+        getD-gather 2 (λ k. rewiredGate net root p (suc (free net + k))) (λ k. two (suc (free net + k))) (size net) (v - suc (free net)) j 0 (omega arith) h
         ∙ ap (λ (u : ℕ). getD (rewiredGate net root p u) j 0) e
 
     words : (a b : ℕ) → rewiredGate net root p v ≡ largerFirst a b → (first (rewiredNet net root p) v ≡ max a b) × (second (rewiredNet net root p) v ≡ min a b)
@@ -147,3 +149,16 @@ module _ (g : Graph) (ok : Lawful g) (root : ℕ) (gate : IsGate (g .net) root) 
     below = λ v i. unfold rewired in in-order v (old-gate v i) .1;
     sinks-within = λ j h. unfold rewired in omega (arith, sink-at j (omega (arith, length-map (sinks g) (redirected root p))), rewired-free (g .net) root p, rewired-size (g .net) root p);
   }
+
+  rewired-well-formed : WellFormed g → WellFormed (rewired g root p)
+  rewired-well-formed well = record {
+    lawful = rewired-lawful;
+    inputs-few = unfold rewired in rw (rewired-free (g .net) root p) (well .inputs-few);
+    outputs-few = unfold rewired in rw (length-map (sinks g) (redirected root p)) (well .outputs-few);
+    gates-few = unfold rewired in rw (rewired-size (g .net) root p) (well .gates-few);
+  }
+
+  -- so the order is never lost
+  pub finished-well-formed : WellFormed g → WellFormed (finished g root p)
+  unfolding finished
+  finished-well-formed well = dropped-well-formed (rewired g root p) rewired-lawful (rewired-well-formed well)

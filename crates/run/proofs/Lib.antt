@@ -1,3 +1,5 @@
 pub mod Greatest
 pub mod Step
 pub mod Run
+pub mod Once
+pub mod Refusals

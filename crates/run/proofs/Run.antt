@@ -17,14 +17,12 @@ use Rattle.window.proofs.Coverage.{covered-iff}
 use Rattle.window.proofs.LeafRule.{picked-well-set, picked-cuts}
 use Rattle.replace.specs.Rewire.{rewired, finished}
 use Rattle.replace.proofs.Allowed.{allowed-facts}
-use Rattle.replace.proofs.Rewire.{rewired-lawful}
-use Rattle.replace.proofs.Replacement.{Fits, finished-well-formed, finished-keeps-outputs}
+use Rattle.replace.proofs.Rewire.{rewired-lawful, finished-well-formed}
+use Rattle.replace.proofs.Replacement.{Fits, finished-keeps-outputs}
 use Rattle.replace.proofs.Gain.{falls-by-gain}
-use Rattle.listing.specs.Listing.{proposalOf, GoodRecord}
-use Rattle.listing.proofs.TheList.{listed-is}
+use Rattle.listing.specs.Listing.{proposalOf}
 use Rattle.run.specs.Run.{step, End, stepsFrom, run, NoneAt, Step, Steps, ends, goes-on}
-use Rattle.run.proofs.Greatest.{greatest-in}
-use Rattle.run.proofs.Step.{step-is, no-step}
+use Rattle.run.proofs.Step.{step-is, no-step, best-good}
 
 -- what holds before and after each step
 pub record Ready (g : Graph) : Type 0 where
@@ -34,9 +32,6 @@ pub record Ready (g : Graph) : Type 0 where
 -- ---- one step
 
 module _ (g h : Graph) (ready : Ready g) (s : Step g h) where
-  good : GoodRecord g (s .root) (picked (g .net) (s .root)) (s .best)
-  good = listed-is g (s .root) (picked (g .net) (s .root)) .holds (s .best) .0 (greatest-in (s .is-best))
-
   lawful : Lawful g
   lawful = ready .well-formed .lawful
 
@@ -46,13 +41,13 @@ module _ (g h : Graph) (ready : Ready g) (s : Step g h) where
     gate = s .is-gate;
     few = picked-well-set g lawful (s .root) (s .is-gate) .few;
     cut = covered-iff g lawful (picked (g .net) (s .root)) (s .root) (s .is-gate .within) .1 (picked-cuts g lawful (s .root) (s .is-gate));
-    rule = allowed-facts (g .net) (s .root) (picked (g .net) (s .root)) (proposalOf (s .best)) (good .keeps-rule);
-    equal = good .equals;
+    rule = allowed-facts (g .net) (s .root) (picked (g .net) (s .root)) (proposalOf (s .best)) (best-good s .keeps-rule);
+    equal = best-good s .equals;
   }
 
   finished-ready : Ready (finished g (s .root) (proposalOf (s .best)))
   finished-ready = record {
-    well-formed = finished-well-formed g (s .root) (picked (g .net) (s .root)) (proposalOf (s .best)) fits (ready .well-formed);
+    well-formed = finished-well-formed g lawful (s .root) (s .is-gate) (picked (g .net) (s .root)) (proposalOf (s .best)) (fits .rule) (ready .well-formed);
     all-reached = unfold finished in
         dropped-all-reached (rewired g (s .root) (proposalOf (s .best)))
         (rewired-lawful g lawful (s .root) (s .is-gate) (picked (g .net) (s .root)) (proposalOf (s .best)) (fits .rule));
@@ -65,11 +60,11 @@ module _ (g h : Graph) (ready : Ready g) (s : Step g h) where
   pub step-lowers : usedGates h + s .best .gain ≡ usedGates g
   step-lowers =
       ap (λ (e : Graph). usedGates e + s .best .gain) (s .becomes)
-      ∙ falls-by-gain g (s .root) (proposalOf (s .best)) (s .best .gain) (good .gain-is) (good .at-least-one)
+      ∙ falls-by-gain g (s .root) (proposalOf (s .best)) (s .best .gain) (best-good s .gain-is) (best-good s .at-least-one)
 
   pub step-shrinks : size (h .net) < size (g .net)
   step-shrinks =
-      let b = good .at-least-one in
+      let b = best-good s .at-least-one in
       omega (arith, step-lowers, all-used g lawful (ready .all-reached), all-used h (step-ready .well-formed .lawful) (step-ready .all-reached))
 
   pub step-keeps-outputs : (a : ℕ → Bool) → outputsUnder h a ≡ outputsUnder g a

@@ -11,10 +11,10 @@ use Rattle.graph.proofs.Lists.{at-most-or-above}
 use Rattle.window.specs.LeafRule.{picked}
 use Rattle.replace.specs.Rewire.{finished}
 use Rattle.listing.specs.declared.Candidate.{Candidate}
-use Rattle.listing.specs.Listing.{listed, proposalOf}
-use Rattle.listing.proofs.TheList.{list-empty-iff}
+use Rattle.listing.specs.Listing.{listed, proposalOf, GoodRecord}
+use Rattle.listing.proofs.TheList.{listed-is, list-empty-iff}
 use Rattle.run.specs.Run.{bestAt, stepFrom, step, NoneAt, Step}
-use Rattle.run.proofs.Greatest.{greatest-is, greatest-none}
+use Rattle.run.proofs.Greatest.{greatest-is, greatest-none, greatest-in}
 
 module _ (g : Graph) where
   none-best : (v : ℕ) → bestAt g v ≡ none → NoneAt g v
@@ -61,3 +61,7 @@ module _ (g : Graph) where
 
   pub no-step : step g ≡ none → (v : ℕ) → IsGate (g .net) v → NoneAt g v
   no-step e v i = subst PassTo e passed v i (let a = i .above in omega arith)
+
+-- the record taken is a good one
+pub best-good : {g h : Graph} (s : Step g h) → GoodRecord g (s .root) (picked (g .net) (s .root)) (s .best)
+best-good {g} s = listed-is g (s .root) (picked (g .net) (s .root)) .holds (s .best) .0 (greatest-in (s .is-best))

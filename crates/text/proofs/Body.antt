@@ -17,7 +17,8 @@ use Rattle.text.specs.Line.{line}
 use Rattle.text.specs.States.{aag, inputLines, outputLines, gateLines, textWith}
 use Rattle.text.specs.Reading.{Header, headerOf, Needed, inputNeeded, outputNeeded, gateNeeded, linesNeeded, gateWords, graphRead}
 use Rattle.text.proofs.Lines.{lines-decode}
-use Rattle.text.proofs.Gathered.{listed, gather-same, gather-is, listed-is, flatMap-append, flatMap-listed, by-part, row, length-row, row-first, row-second, row-third}
+use Rattle.graph.proofs.Gather.{gather-same, gather-is}
+use Rattle.text.proofs.Gathered.{listed, listed-is, flatMap-append, flatMap-listed, by-part, row, length-row, row-first, row-second, row-third}
 
 -- ---- the numbers of a text
 

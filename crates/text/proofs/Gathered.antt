@@ -1,55 +1,20 @@
--- Gathered lists: how long they are, what stands at each place, and three of them in a row.
+-- Lists made of single elements, and three of them in a row.
 -- Assumes nothing.
 use mathlib.Core.Path.{_≡_, refl, sym, ap, ap₂, _∙_, subst}
 use mathlib.Core.List.{List, [], _∷_, _++_, append-assoc, append-nil, flatMap}
 use mathlib.Core.Logic.{⊎-elim}
 use Prim.Native.Nat.{ℕ, zero, suc, _+_, _-_, _*_, _<_}
-use native.Mathlib.Nat.{not-suc-le-zero, le-refl, mul-le-mul-left}
 use native.Mathlib.Omega.{arith}
 use lib.ListN.{length, getD, length-append, List·getD-append}
 use lib.Seq.{getD-append-add, ext-getD}
 use Rattle.graph.specs.Lists.{gather}
 use Rattle.graph.proofs.Lists.{at-most-or-above}
+use Rattle.graph.proofs.Gather.{length-gather, getD-gather}
 
 module _ {A : Type 0} where
   -- f 0, f 1, .. f (n - 1)
   abbrev pub listed : (ℕ → A) → ℕ → List A
   listed f n = gather (λ k. f k ∷ []) n
-
-  pub gather-same : (f g : ℕ → List A) (n : ℕ) → ((k : ℕ) → k < n → f k ≡ g k) → gather f n ≡ gather g n
-  unfolding gather
-  gather-same f g zero h = refl
-  gather-same f g (suc n) h = ap₂ (λ (x y : List A). x ++ y) (gather-same f g n (λ k l. h k (omega arith))) (h n (le-refl (suc n)))
-
-  -- pieces of c elements each
-  module _ (c : ℕ) (f : ℕ → List A) (each : (k : ℕ) → length (f k) ≡ c) where
-    pub length-gather : (n : ℕ) → length (gather f n) ≡ c * n
-    unfolding gather
-    length-gather zero = omega arith
-    length-gather (suc n) = length-append (gather f n) (f n) ∙ omega (arith, length-gather n, each n)
-
-    pub getD-gather : (n k i : ℕ) (d : A) → k < n → i < c → getD (gather f n) (c * k + i) d ≡ getD (f k) i d
-    unfolding gather
-    getD-gather zero k i d h l = absurd (not-suc-le-zero h)
-    getD-gather (suc n) k i d h l = ⊎-elim
-        (λ (m : k < n). List·getD-append (gather f n) (f n) d (c * k + i) (omega (arith, length-gather n, mul-le-mul-left c m)) ∙ getD-gather n k i d m l)
-        (λ (m : n < suc k).
-        let q : k ≡ n = omega arith in
-        rw (q, ← length-gather n) (getD-append-add (gather f n) (f n) i d))
-        (at-most-or-above (suc k) n)
-
-    -- each place below c n is one of the c of one of the n
-    by-place : (P : ℕ → Type 0) (n : ℕ) → ((k i : ℕ) → k < n → i < c → P (c * k + i)) → (j : ℕ) → j < c * n → P j
-    by-place P zero p j h = absurd (omega arith)
-    by-place P (suc n) p j h = ⊎-elim
-        (λ (m : j < c * n). by-place P n (λ k i l. p k i (omega arith)) j m)
-        (λ (m : c * n < suc j). let e : c * n + (j - c * n) ≡ j = omega arith in subst P e (p n (j - c * n) (le-refl (suc n)) (omega arith)))
-        (at-most-or-above (suc j) (c * n))
-
-    pub gather-is : (xs : List A) (n : ℕ) (d : A) → length xs ≡ c * n → ((k i : ℕ) → k < n → i < c → getD xs (c * k + i) d ≡ getD (f k) i d) → xs ≡ gather f n
-    gather-is xs n d q h =
-        ext-getD d xs (gather f n) (q ∙ sym (length-gather n)) λ j l.
-        by-place (λ i. getD xs i d ≡ getD (gather f n) i d) n (λ k i m o. h k i m o ∙ sym (getD-gather n k i d m o)) j (omega arith)
 
   pub length-listed : (f : ℕ → A) (n : ℕ) → length (listed f n) ≡ n
   length-listed f n = length-gather 1 (λ k. f k ∷ []) (λ k. refl) n ∙ omega arith

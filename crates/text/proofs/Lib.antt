@@ -7,3 +7,5 @@ pub mod Fitting
 pub mod Spelling
 pub mod Reading
 pub mod RoundTrip
+pub mod FirstWrong
+pub mod Refusals

@@ -11,7 +11,7 @@ use borrow.Author.Tests.{eqb-true, eq-eqb}
 use lib.Dec.{eqb}
 use lib.ListN.{length, getD}
 use Rattle.text.specs.Number.{isDigit, decimal, Front, front, mostNumber, number}
-use Rattle.text.specs.Line.{separator, line, after, lineOf}
+use Rattle.text.specs.Line.{_>>=_, separator, line, after, lineOf}
 use Rattle.text.specs.States.{aag}
 use Rattle.text.specs.Reading.{headerLine}
 use Rattle.text.specs.Refusals.{Shaped, Headed}
@@ -23,12 +23,6 @@ separator-ends zero = refl
 separator-ends (suc n) = refl
 
 -- ---- the steps of reading
-
--- one step after another, as lines are read
-infixl 20 _>>=_
-abbrev _>>=_ : {A B : Type 0} → Option A → (A → Option B) → Option B
-none >>= f = none
-some x >>= f = f x
 
 -- where two steps succeed, each does
 both-some : {A B P : Type 0} (o : Option A) (f : A → Option B) (y : B) → (o >>= f) ≡ some y → ((x : A) → o ≡ some x → f x ≡ some y → P) → P
@@ -127,21 +121,16 @@ lines-decode (x ∷ ms) (y ∷ ns) t u q e =
 
 -- ---- the first line
 
-header-steps : (t : List ℕ) → headerLine t ≡ (after aag t >>= lineOf 5)
-unfolding headerLine
-header-steps t = go (after aag t)
-  where
-    go : (o : Option (List ℕ)) → elim o [ none ↦ none | some u ↦ lineOf 5 u ] ≡ (o >>= lineOf 5)
-    go none = refl
-    go (some u) = refl
-
 header-states : (t ns rest : List ℕ) → headerLine t ≡ some (front ns rest) → Headed t ns rest
+unfolding headerLine
 header-states t ns rest e =
-    both-some (after aag t) (lineOf 5) (front ns rest) (sym (header-steps t) ∙ e) λ u eu e₁.
+    both-some (after aag t) (lineOf 5) (front ns rest) e λ u eu e₁.
     record { numbers = u; is = after-states aag t u eu; shaped = line-states 5 u ns rest e₁ }
 
 header-of : (t ns rest : List ℕ) → Headed t ns rest → headerLine t ≡ some (front ns rest)
-header-of t ns rest h = rw (header-steps t, h .is, after-of aag (h .numbers)) (line-of 5 (h .numbers) ns rest (h .shaped))
+unfolding headerLine
+header-of t ns rest h =
+    ap (λ (o : Option (List ℕ)). o >>= lineOf 5) (ap (after aag) (h .is) ∙ after-of aag (h .numbers)) ∙ line-of 5 (h .numbers) ns rest (h .shaped)
 
 pub header-line-iff : (t ns rest : List ℕ) → (headerLine t ≡ some (front ns rest)) ↔ Headed t ns rest
 header-line-iff t ns rest = (header-states t ns rest, header-of t ns rest)

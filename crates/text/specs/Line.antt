@@ -28,7 +28,7 @@ line (x ∷ xs) = decimal x ++ (separator (length xs) ∷ line xs)
 -- ---- reading a line
 
 infixl 20 _>>=_
-abbrev _>>=_ : {A B : Type 0} → Option A → (A → Option B) → Option B
+abbrev pub _>>=_ : {A B : Type 0} → Option A → (A → Option B) → Option B
 none >>= f = none
 some x >>= f = f x
 

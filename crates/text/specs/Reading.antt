@@ -12,7 +12,7 @@ use Rattle.graph.specs.Lists.{gather}
 use Rattle.graph.specs.Refuse.{Row, _⇒_, firstRefusal}
 use Rattle.graph.specs.Graph.{Graph, graphOf, largerFirst, mostInputs, mostOutputs, mostGates}
 use Rattle.text.specs.Number.{Front}
-use Rattle.text.specs.Line.{after, lineOf}
+use Rattle.text.specs.Line.{_>>=_, after, lineOf}
 use Rattle.text.specs.States.{aag, skipped}
 
 -- ---- the first line
@@ -31,7 +31,9 @@ headerOf ns = record { highest = getD ns 0 0; inputs = getD ns 1 0; latches = ge
 -- the five numbers of a well-shaped first line, and the text that follows it
 unfoldable pub headerLine : List ℕ → Option (Front (List ℕ))
 unfolding after lineOf
-headerLine t = elim (after aag t) [ none ↦ none | some t′ ↦ lineOf 5 t′ ]
+headerLine t = do
+  t′ ← after aag t
+  lineOf 5 t′
 
 -- a text has at most so many bytes
 abbrev pub mostBytes : ℕ

@@ -4,51 +4,24 @@ use mathlib.Core.Path.{_≡_, refl, sym, ap, ap₂, subst, _∙_}
 use mathlib.Core.Bool.{Bool, true, false, _&&_, false≢true, and-eq-true-iff}
 use mathlib.Core.List.{List}
 use mathlib.Core.Logic.{_↔_, ⊎-elim}
-use mathlib.Core.Option.{Option, none, some, Option·getD, Option·map}
+use mathlib.Core.Option.{Option, none, some, Option·map}
 use Prim.Native.Nat.{ℕ, zero, suc, _≤_, _<_}
-use native.Mathlib.Nat.{le-refl}
 use native.Mathlib.Omega.{arith}
 use borrow.Author.Tests.{le-leb, lt-leb}
 use lib.ListN.{getD, List·getD-eq-default}
 use Rattle.graph.specs.Lists.{_∈_}
 use Rattle.graph.specs.Literal.{varOf, isOdd}
 use Rattle.graph.specs.Graph.{Net, Graph, free, last, first, second, IsGate, Lawful}
-use Rattle.graph.specs.Sweep.{Kind, bools, turned, litValue, byGate, values, valueAt}
+use Rattle.graph.specs.Sweep.{bools, turned, litValue, values, valueAt}
 use Rattle.graph.specs.Evaluate.{assigned}
-use Rattle.graph.proofs.Lists.{at-most-or-above, and-both}
-use Rattle.graph.proofs.Sweep.{values-length, values-top, values-at, byGate-gate}
+use Rattle.graph.proofs.Lists.{at-most-or-above, strong, and-both}
+use Rattle.graph.proofs.Sweep.{values-length, values-at, own-value, gate-value}
+use Rattle.graph.proofs.Values.{assigned-gate}
 use Rattle.window.specs.declared.Leaves.{Leaves}
 use Rattle.window.specs.Leaves.{leafList, leafPlace}
 use Rattle.window.specs.Local.{Covered, zero-is, leaf-is, gate-is, coverage, coveredOwn, covered, leafOwn, localAt}
 use Rattle.graph.proofs.Members.{at-place}
 use Rattle.window.proofs.Places.{leaf-found, leaf-missed}
-
--- ---- induction from everything below
-
-up-to : (P : ℕ → Type 0) → P 0 → ((n : ℕ) → ((v : ℕ) → v ≤ n → P v) → P (suc n)) → (n v : ℕ) → v ≤ n → P v
-up-to P z s zero v h = let e : 0 ≡ v = omega arith in subst P e z
-up-to P z s (suc n) v h = ⊎-elim
-    (λ l. up-to P z s n v l)
-    (λ l. let e : suc n ≡ v = omega arith in subst P e (s n (up-to P z s n)))
-    (at-most-or-above v n)
-
-strong : (P : ℕ → Type 0) → P 0 → ((n : ℕ) → ((v : ℕ) → v ≤ n → P v) → P (suc n)) → (v : ℕ) → P v
-strong P z s v = up-to P z s v v (le-refl v)
-
--- ---- one step of a sweep
-
-module _ {A : Type 0} (K : Kind A) (own : ℕ → Option A) (net : Net) where
-  value-own : (n : ℕ) (x : A) → own (suc n) ≡ some x → valueAt K own net (suc n) ≡ x
-  unfolding valueAt
-  value-own n x e = values-top K own net n (K .no) ∙ ap (λ (o : Option A). Option·getD o (byGate K net (suc n) (values K own net n))) e
-
-  value-gate : (n : ℕ) → own (suc n) ≡ none → free net < suc n
-      → valueAt K own net (suc n) ≡ K .conj (litValue K (values K own net n) (first net (suc n))) (litValue K (values K own net n) (second net (suc n)))
-  unfolding valueAt
-  value-gate n e h =
-      values-top K own net n (K .no)
-      ∙ ap (λ (o : Option A). Option·getD o (byGate K net (suc n) (values K own net n))) e
-      ∙ byGate-gate K net (suc n) (values K own net n) h
 
 -- ---- one step of coverage
 
@@ -62,11 +35,11 @@ module _ (net : Net) (w : Leaves) where
 
   covered-leaf : (n j : ℕ) → leafPlace w (suc n) ≡ some j → covered net w (suc n) ≡ true
   unfolding covered coveredOwn
-  covered-leaf n j e = value-own coverage (coveredOwn net w) net n true (rw (e, coveredOwn))
+  covered-leaf n j e = own-value coverage (coveredOwn net w) net n true (rw (e, coveredOwn))
 
   uncovered-input : (n : ℕ) → leafPlace w (suc n) ≡ none → suc n ≤ free net → covered net w (suc n) ≡ false
   unfolding covered coveredOwn
-  uncovered-input n e h = value-own coverage (coveredOwn net w) net n false (rw (e, coveredOwn, le-leb (suc n) (free net) h))
+  uncovered-input n e h = own-value coverage (coveredOwn net w) net n false (rw (e, coveredOwn, le-leb (suc n) (free net) h))
 
   lit-covered : (n l : ℕ) → litValue coverage (covers n) l ≡ getD (covers n) (varOf l) true
   unfolding litValue turned coverage
@@ -80,7 +53,7 @@ module _ (net : Net) (w : Leaves) where
       → covered net w (suc n) ≡ getD (covers n) (varOf (first net (suc n))) true && getD (covers n) (varOf (second net (suc n))) true
   unfolding covered coverage coveredOwn
   covered-gate n e h =
-      value-gate coverage (coveredOwn net w) net n (rw (e, coveredOwn, lt-leb (suc n) (free net) h)) h
+      gate-value coverage (coveredOwn net w) net n (rw (e, coveredOwn, lt-leb (suc n) (free net) h)) h
       ∙ ap₂ _&&_ (lit-covered n (first net (suc n))) (lit-covered n (second net (suc n)))
 
   -- a leaf is covered, so to be covered is to be shown for what is no leaf
@@ -164,10 +137,6 @@ module _ (net : Net) (w : Leaves) (a : ℕ → Bool) where
   abbrev Agrees : ℕ → Type 0
   Agrees v = covered net w v ≡ true → value v ≡ localAt net w leafValue v
 
-  assigned-gate : (v : ℕ) → free net < v → assigned net a v ≡ none
-  unfolding assigned
-  assigned-gate v h = rw (lt-leb v (free net) h)
-
   own-by : (v : ℕ) (p : Option ℕ) → leafPlace w v ≡ p → leafOwn w leafValue v ≡ Option·map leafValue p
   unfolding leafOwn
   own-by v p e = ap (Option·map leafValue) e
@@ -190,11 +159,11 @@ module _ (net : Net) (w : Leaves) (a : ℕ → Bool) where
   agrees-next : (n : ℕ) → ((v : ℕ) → v ≤ n → Agrees v) → Agrees (suc n)
   unfolding localAt
   agrees-next n below c = covered-cases net w n c
-      (λ j e. ap value (sym (leaf-found w (suc n) j e .1)) ∙ sym (value-own bools (leafOwn w leafValue) net n (leafValue j) (own-by (suc n) (some j) e)))
+      (λ j e. ap value (sym (leaf-found w (suc n) j e .1)) ∙ sym (own-value bools (leafOwn w leafValue) net n (leafValue j) (own-by (suc n) (some j) e)))
       (λ e h p q.
-      value-gate bools (assigned net a) net n (assigned-gate (suc n) h) h
+      gate-value bools (assigned net a) net n (assigned-gate net a (suc n) h) h
       ∙ ap₂ (bools .conj) (literals-agree n (first net (suc n)) below p) (literals-agree n (second net (suc n)) below q)
-      ∙ sym (value-gate bools (leafOwn w leafValue) net n (own-by (suc n) none e) h))
+      ∙ sym (gate-value bools (leafOwn w leafValue) net n (own-by (suc n) none e) h))
 
   agrees-zero : Agrees 0
   unfolding valueAt values localAt

@@ -13,18 +13,13 @@ use Rattle.graph.specs.Graph.{Net, Graph, free, IsGate, Lawful}
 use Rattle.graph.proofs.Lists.{at-most-or-above}
 use Rattle.window.specs.Leaves.{leafLimit, leafList, WellSet}
 use Rattle.window.specs.Local.{Covered}
-use Rattle.window.specs.LeafRule.{withFanins, expand, expansions, smallest, grow, ruleLeaves, picked}
+use Rattle.window.specs.LeafRule.{Chosen, Follows, stops, takes, withFanins, expand, expansions, smallest, grow, ruleLeaves, picked}
 use Rattle.graph.proofs.Members.{is-in}
 use Rattle.window.proofs.LeafSets.{leaves-of-list, leaves-of-well-set}
 use Rattle.window.proofs.Weight.{weight, weightless}
 use Rattle.window.proofs.Smallest.{none-smallest}
 use Rattle.window.proofs.Expansions.{CutUnder, fanins-length, start-weighs, expand-weighs, start-cuts, expand-cuts}
-use Rattle.window.proofs.Choice.{Chosen, chosen, no-candidate}
-
--- from the first set the rule comes to the second
-pub data Follows (limit : ℕ) (net : Net) : List ℕ → List ℕ → Type 0 where
-  stops : {xs : List ℕ} → expansions limit net xs ≡ [] → Follows limit net xs xs
-  takes : {xs ys zs : List ℕ} → Chosen limit net xs ys → Follows limit net ys zs → Follows limit net xs zs
+use Rattle.window.proofs.Choice.{chosen, no-expandable}
 
 module _ {limit : ℕ} {net : Net} where
   follows-ends : {xs zs : List ℕ} → Follows limit net xs zs → expansions limit net zs ≡ []
@@ -44,13 +39,13 @@ module _ (g : Graph) (law : Lawful g) (limit root : ℕ) (gate : IsGate (g .net)
   open Graph g using (net)
 
   chosen-gate : {xs ys : List ℕ} → CutUnder net root xs → (c : Chosen limit net xs ys) → IsGate net (c .leaf)
-  chosen-gate u c = record { above = c .candidate .is-gate; within = omega (arith, u .below-root (c .leaf) (c .candidate .is-leaf)) }
+  chosen-gate u c = record { above = c .is-expandable .is-gate; within = omega (arith, u .below-root (c .leaf) (c .is-expandable .is-leaf)) }
 
   chosen-cuts : (xs ys : List ℕ) → CutUnder net root xs → Chosen limit net xs ys → CutUnder net root ys
-  chosen-cuts xs ys u c = rw (c .expanded) at (expand-cuts g law root xs (c .leaf) (chosen-gate u c) (c .candidate .is-leaf) u)
+  chosen-cuts xs ys u c = rw (c .expanded) at (expand-cuts g law root xs (c .leaf) (chosen-gate u c) (c .is-expandable .is-leaf) u)
 
   chosen-weighs : (xs ys : List ℕ) → CutUnder net root xs → Chosen limit net xs ys → weight ys < weight xs
-  chosen-weighs xs ys u c = rw (c .expanded) at (expand-weighs g law xs (c .leaf) (chosen-gate u c) (c .candidate .is-leaf))
+  chosen-weighs xs ys u c = rw (c .expanded) at (expand-weighs g law xs (c .leaf) (chosen-gate u c) (c .is-expandable .is-leaf))
 
   -- each step makes the set lighter, so as many steps as the weight are enough
   grow-follows : (n : ℕ) (xs : List ℕ) → CutUnder net root xs → weight xs ≤ n → Follows limit net xs (grow limit net n xs)
@@ -78,7 +73,7 @@ module _ (g : Graph) (law : Lawful g) (limit root : ℕ) (gate : IsGate (g .net)
 
   pub rule-few : 2 ≤ limit → length (ruleLeaves limit net root) ≤ limit
   rule-few h =
-      follows-keeps (λ xs. length xs ≤ limit) (λ xs ys _ c. rw (c .expanded) at (c .candidate .few)) rule-follows
+      follows-keeps (λ xs. length xs ≤ limit) (λ xs ys _ c. rw (c .expanded) at (c .is-expandable .few)) rule-follows
       (omega (arith, fanins-length net root []))
 
 -- ---- the six places
@@ -103,7 +98,7 @@ module _ (g : Graph) (law : Lawful g) (root : ℕ) (gate : IsGate (g .net) root)
   pub picked-no-expansion : (v : ℕ) → isIn v (leafList (picked net root)) ≡ true → free net < v → leafLimit < length (expand net (leafList (picked net root)) v)
   picked-no-expansion v e h = ⊎-elim
       (λ l.
-      absurd (no-candidate leafLimit net (leafList (picked net root)) (ap (expansions leafLimit net) picked-list ∙ rule-ends g law leafLimit root gate) v
+      absurd (no-expandable leafLimit net (leafList (picked net root)) (ap (expansions leafLimit net) picked-list ∙ rule-ends g law leafLimit root gate) v
       (record { is-leaf = is-in v _ e; is-gate = h; few = l })))
       (λ l. l)
       (at-most-or-above (length (expand net (leafList (picked net root)) v)) leafLimit)

@@ -10,3 +10,4 @@ pub mod Expansions
 pub mod Smallest
 pub mod Choice
 pub mod LeafRule
+pub mod Refusals

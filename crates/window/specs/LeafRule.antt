@@ -1,12 +1,13 @@
 -- Expanding a leaf, and the leaf rule. Sets of variables are ascending lists.
 -- Assumes nothing.
-use Prim.Native.Nat.{ℕ, zero, suc, _^_}
+use Prim.Native.Nat.{ℕ, zero, suc, _^_, _≤_, _<_}
+use mathlib.Core.Path.{_≡_}
 use mathlib.Core.Bool.{cond}
 use mathlib.Core.List.{List, [], _∷_, map}
 use mathlib.Core.Option.{Option, none, some}
 use lib.Dec.{leb, ltb, eqb}
 use lib.ListN.{length}
-use Rattle.graph.specs.Lists.{keep}
+use Rattle.graph.specs.Lists.{_∈_, keep}
 use Rattle.graph.specs.Literal.{varOf}
 use Rattle.graph.specs.Graph.{Net, free, first, second}
 use Rattle.window.specs.declared.Leaves.{Leaves}
@@ -66,3 +67,24 @@ ruleLeaves limit net root = grow limit net (2 ^ root) (withFanins net root [])
 unfoldable pub picked : Net → ℕ → Leaves
 unfolding ruleLeaves leavesOf
 picked net root = leavesOf (ruleLeaves leafLimit net root)
+
+-- ---- what the rule must do
+
+-- a gate leaf whose expansion keeps at most so many leaves
+pub record Expandable (limit : ℕ) (net : Net) (xs : List ℕ) (v : ℕ) : Type 0 where
+  pub is-leaf : v ∈ xs
+  pub is-gate : free net < v
+  pub few : length (expand net xs v) ≤ limit
+
+-- the expansion taken: none is smaller, and none of a higher leaf is as small
+pub record Chosen (limit : ℕ) (net : Net) (xs ys : List ℕ) : Type 0 where
+  pub leaf : ℕ
+  pub is-expandable : Expandable limit net xs leaf
+  pub expanded : expand net xs leaf ≡ ys
+  pub none-smaller : (u : ℕ) → Expandable limit net xs u → length ys ≤ length (expand net xs u)
+  pub higher-larger : (u : ℕ) → Expandable limit net xs u → leaf < u → length ys < length (expand net xs u)
+
+-- from the first set the rule comes to the second: it expands until no expansion is left
+pub data Follows (limit : ℕ) (net : Net) : List ℕ → List ℕ → Type 0 where
+  stops : {xs : List ℕ} → expansions limit net xs ≡ [] → Follows limit net xs xs
+  takes : {xs ys zs : List ℕ} → Chosen limit net xs ys → Follows limit net ys zs → Follows limit net xs zs

@@ -1,0 +1,234 @@
+-- Reading and writing refuse with the lowest number of the refusals that are given.
+-- Assumes nothing.
+use mathlib.Core.Path.{_≡_, refl, sym, ap, subst, _∙_}
+use mathlib.Core.Bool.{Bool, true, false, cond, _||_}
+use mathlib.Core.List.{List}
+use mathlib.Core.Logic.{_↔_, _⊎_, inl, inr, ⊎-elim}
+use mathlib.Core.Option.{Option, none, some, Option·some-injective, Option·none-ne-some, Option·some-ne-none, orElse}
+use Prim.Native.Nat.{ℕ, _≤_, _<_, _+_}
+use native.Mathlib.Omega.{arith}
+use borrow.Author.Tests.{leb-true}
+use lib.Dec.{leb, ltb, eqb}
+use lib.ListN.{length}
+use Rattle.graph.specs.declared.refusal.Refusal.{Refusal}
+use Rattle.graph.specs.declared.refusal.Refusal.the-variants.{NoRoom}
+use Rattle.graph.specs.Refuse.{Row, firstRefusal, numberOf, Lowest}
+use Rattle.graph.specs.Lent.{Buffers, noRoomFor, NoRoomFor}
+use Rattle.graph.specs.Graph.{Graph, mostInputs, mostOutputs, mostGates}
+use Rattle.graph.proofs.WellFormed.{well-formed-iff}
+use Rattle.graph.proofs.Refusals.{numberOf-not-zero, Settles, gives, clears, settles-then, settles-number, Decides, Silent, ascends, first-settles, first-none, denial-on, denial-off, test-off, or-iff, ltb-iff, eqb-iff, short-iff, no-room-iff}
+use Rattle.text.specs.Number.{Front, front}
+use Rattle.text.specs.States.{States, textOf}
+use Rattle.text.specs.Reading.{Header, headerOf, headerLine, mostBytes, headerRefusals, Needed, linesNeeded, Lines, wrong, right, readLines, Reading, refuses, yields, graphRead, readBody, reading}
+use Rattle.text.specs.Refusals.{Headed, FirstWrong, ReadGiven, WriteGiven}
+use Rattle.text.specs.Calls.{withRoom, readEffect, readOutcome, writeRefusals, writeEffect, writtenOutcome}
+use Rattle.text.proofs.Lines.{header-line-iff}
+use Rattle.text.proofs.States.{states-one}
+use Rattle.text.proofs.Reading.{reading-iff}
+use Rattle.text.proofs.FirstWrong.{wrong-injective, right-not-wrong, lines-wrong, wrong-lines, wrong-number}
+
+-- ---- reading
+
+refusalOf : Reading → Option Refusal
+refusalOf (refuses r) = some r
+refusalOf (yields g) = none
+
+refusal-is : (x : Reading) (r : Refusal) → refusalOf x ≡ some r → x ≡ refuses r
+unfolding refusalOf
+refusal-is (refuses q) r e = ap refuses (Option·some-injective q r e)
+refusal-is (yields g) r e = absurd (Option·none-ne-some r e)
+
+graph-is : (x : Reading) → refusalOf x ≡ none → (g : Graph) × (x ≡ yields g)
+unfolding refusalOf
+graph-is (refuses q) e = absurd (Option·some-ne-none q e)
+graph-is (yields g) e = (g, refl)
+
+-- the text has a well-shaped first line
+module _ (t : List ℕ) (b : Buffers) (ns rest : List ℕ) (e : headerLine t ≡ some (front ns rest)) where
+  abbrev counts : Header
+  counts = headerOf ns
+
+  abbrev rows : List Row
+  rows = headerRefusals t counts
+
+  abbrev needs : List Needed
+  needs = linesNeeded counts
+
+  headed : Headed t ns rest
+  headed = header-line-iff t ns rest .0 e
+
+  -- the first line is read in one way
+  as-read : (P : List ℕ → List ℕ → Type 0) {ms u : List ℕ} → Headed t ms u → P ms u → P ns rest
+  as-read P {ms} {u} h p =
+      subst (λ (x : Front (List ℕ)). P (x .got) (x .rest)) (Option·some-injective (front ms u) (front ns rest) (sym (header-line-iff t ms u .1 h) ∙ e)) p
+
+  -- the tests of the three rows
+  large-iff : (ltb mostInputs (counts .inputs) || ltb mostOutputs (counts .outputs) || ltb mostGates (counts .gates) || ltb mostBytes (length t) ≡ true)
+      ↔ (((mostInputs < counts .inputs ⊎ mostOutputs < counts .outputs) ⊎ mostGates < counts .gates) ⊎ mostBytes < length t)
+  large-iff = or-iff _ _ (or-iff _ _ (or-iff _ _ (ltb-iff _ _) (ltb-iff _ _)) (ltb-iff _ _)) (ltb-iff _ _)
+
+  latches-iff : (eqb (counts .latches) 0 ≡ true) ↔ (counts .latches ≡ 0)
+  latches-iff = eqb-iff (counts .latches) 0
+
+  count-iff : (eqb (counts .highest) (counts .inputs + counts .gates) ≡ true) ↔ (counts .highest ≡ counts .inputs + counts .gates)
+  count-iff = eqb-iff (counts .highest) (counts .inputs + counts .gates)
+
+  -- all that is given is early, and the rows do not miss it; or it is late: a wrong line, or no room
+  data Case : Refusal → Type 0 where
+    early : {r : Refusal} → leb (numberOf r) 4 ≡ true → ¬ Silent (numberOf r) rows → Case r
+    by-line : {r : Refusal} → FirstWrong needs rest r → Case r
+    by-room : {g : Graph} → States t g → NoRoomFor g b → Case NoRoom
+
+  case : {q : Refusal} → ReadGiven t b q → Case q
+  unfolding headerRefusals numberOf
+  case (ReadGiven.bad-header n) = absurd (n ns rest headed)
+  case (ReadGiven.many-inputs h k) =
+      early refl (λ s. test-off _ large-iff (s .0 refl) (inl (inl (inl (as-read (λ ms u. mostInputs < (headerOf ms) .inputs) h k)))))
+  case (ReadGiven.many-outputs h k) =
+      early refl (λ s. test-off _ large-iff (s .0 refl) (inl (inl (inr (as-read (λ ms u. mostOutputs < (headerOf ms) .outputs) h k)))))
+  case (ReadGiven.many-gates h k) =
+      early refl (λ s. test-off _ large-iff (s .0 refl) (inl (inr (as-read (λ ms u. mostGates < (headerOf ms) .gates) h k))))
+  case (ReadGiven.many-bytes k) = early refl (λ s. test-off _ large-iff (s .0 refl) (inr k))
+  case (ReadGiven.latches h k) =
+      early refl (λ s. as-read (λ ms u. ¬ ((headerOf ms) .latches ≡ 0)) h k (denial-off _ latches-iff (s .1 .0 refl)))
+  case (ReadGiven.bad-count h k) =
+      early refl
+      (λ s. as-read (λ ms u. ¬ ((headerOf ms) .highest ≡ (headerOf ms) .inputs + (headerOf ms) .gates)) h k (denial-off _ count-iff (s .1 .1 .0 refl)))
+  case (ReadGiven.wrong-line {r} h w) = by-line (as-read (λ ms u. FirstWrong (linesNeeded (headerOf ms)) u r) h w)
+  case (ReadGiven.no-room h k) = by-room h k
+
+  Early : Refusal → Type 0
+  Early q = ReadGiven t b q × (numberOf q ≤ 4)
+
+  early-complete : {q : Refusal} → Case q → numberOf q ≤ 4 → ¬ Silent (numberOf q) rows
+  unfolding numberOf
+  early-complete (early k n) l = n
+  early-complete (by-line w) l = absurd (omega (arith, wrong-number w))
+  early-complete (by-room h k) l = absurd (omega arith)
+
+  header-decides : Decides Early rows
+  unfolding Early headerRefusals ascends numberOf
+  header-decides = record {
+    ascending = refl;
+    sound = (
+      λ x. (⊎-elim (⊎-elim (⊎-elim (ReadGiven.many-inputs headed) (ReadGiven.many-outputs headed)) (ReadGiven.many-gates headed)) ReadGiven.many-bytes (large-iff .0 x), omega arith),
+      λ _. (
+        λ x. (ReadGiven.latches headed (denial-on _ latches-iff x), omega arith),
+        λ _. (λ x. (ReadGiven.bad-count headed (denial-on _ count-iff x), omega arith), λ _. tt),
+      ),
+    );
+    complete = λ q d. early-complete (case (d .0)) (d .1);
+  }
+
+  -- the steps of reading after the first line
+  reading-refuses : (r : Refusal) → firstRefusal rows ≡ some r → reading t ≡ refuses r
+  unfolding reading
+  reading-refuses r f = rw (e, f, reading)
+
+  reading-body : firstRefusal rows ≡ none → reading t ≡ readBody counts rest
+  unfolding reading
+  reading-body f = rw (e, f, reading)
+
+  body-wrong : (r : Refusal) → readLines needs rest ≡ wrong r → readBody counts rest ≡ refuses r
+  unfolding readBody
+  body-wrong r f = rw (f, readBody)
+
+  body-right : (nss : List (List ℕ)) → readLines needs rest ≡ right nss → readBody counts rest ≡ yields (graphRead counts nss)
+  unfolding readBody
+  body-right nss f = rw (f, readBody)
+
+  module _ (c : (q : Refusal) → ¬ Early q) where
+    -- where nothing early is given, the first wrong line is the lowest refusal
+    line-lowest : (r : Refusal) → FirstWrong needs rest r → Lowest (ReadGiven t b) r
+    unfolding Early numberOf
+    line-lowest r w = record { holds = ReadGiven.wrong-line headed w; none-lower = λ q l d. go d l (case d) }
+      where
+        go : {q : Refusal} → ReadGiven t b q → numberOf q < numberOf r → ¬ Case q
+        go {q} d l (early k n) = c q (d, leb-true (numberOf q) 4 k)
+        go {q} d l (by-line v) = let same : numberOf q ≡ numberOf r = ap numberOf (wrong-injective (sym (wrong-lines v) ∙ wrong-lines w)) in omega arith
+        go d l (by-room h k) = omega (arith, wrong-number w)
+
+    -- and where all lines are right, only room can lack
+    module _ (nss : List (List ℕ)) (f : readLines needs rest ≡ right nss) where
+      abbrev graph : Graph
+      graph = graphRead counts nss
+
+      graph-stated : States t graph
+      graph-stated = (reading-iff t graph .0 (reading-body (first-none header-decides .1 c) ∙ body-right nss f)) .states
+
+      only-room : {q : Refusal} → ReadGiven t b q → Case q → (q ≡ NoRoom) × NoRoomFor graph b
+      unfolding Early
+      only-room {q} d (early k n) = absurd (c q (d, leb-true (numberOf q) 4 k))
+      only-room d (by-line w) = absurd (right-not-wrong (sym f ∙ wrong-lines w))
+      only-room d (by-room {g} h k) = (refl, subst (λ (g : Graph). NoRoomFor g b) (states-one t g graph h graph-stated) k)
+
+      room-settles : Settles (ReadGiven t b) (refusalOf (withRoom (yields graph) b))
+      unfolding withRoom refusalOf
+      room-settles = go (noRoomFor graph b) refl
+        where
+          go : (u : Bool) → noRoomFor graph b ≡ u → Settles (ReadGiven t b) (refusalOf (cond u (refuses NoRoom) (yields graph)))
+          go true h = gives (record {
+            holds = ReadGiven.no-room graph-stated (no-room-iff graph b .0 h);
+            none-lower = λ q l d. let same = ap numberOf (only-room d (case d) .0) in omega (arith, same);
+          })
+          go false h = clears (λ q d. test-off _ (no-room-iff graph b) h (only-room d (case d) .1))
+
+    body-settles : Settles (ReadGiven t b) (refusalOf (withRoom (readBody counts rest) b))
+    unfolding withRoom refusalOf
+    body-settles = go (readLines needs rest) refl
+      where
+        go : (x : Lines) → readLines needs rest ≡ x → Settles (ReadGiven t b) (refusalOf (withRoom (readBody counts rest) b))
+        go (wrong r) f = rw (body-wrong r f) (gives (line-lowest r (lines-wrong needs rest r f)))
+        go (right nss) f = rw (body-right nss f) (room-settles nss f)
+
+  headed-settles : Settles (ReadGiven t b) (refusalOf (withRoom (reading t) b))
+  unfolding withRoom refusalOf orElse Early
+  headed-settles =
+      subst (Settles (ReadGiven t b)) (sym (go (firstRefusal rows) refl))
+      (settles-then (λ q d. d .0) (λ q r d k l. (d, omega (arith, k .1))) (first-settles header-decides) body-settles)
+    where
+      go : (o : Option Refusal) → firstRefusal rows ≡ o → refusalOf (withRoom (reading t) b) ≡ orElse (firstRefusal rows) (refusalOf (withRoom (readBody counts rest) b))
+      go none f = rw (reading-body f, f)
+      go (some r) f = rw (reading-refuses r f, f)
+
+module _ (t : List ℕ) (b : Buffers) where
+  no-header : headerLine t ≡ none → Settles (ReadGiven t b) (refusalOf (withRoom (reading t) b))
+  unfolding reading withRoom refusalOf numberOf
+  no-header e =
+      rw (e, reading)
+      (gives (record {
+        holds = ReadGiven.bad-header (λ ns rest h. Option·none-ne-some (front ns rest) (sym e ∙ header-line-iff t ns rest .1 h));
+        none-lower = λ q l d. numberOf-not-zero q (omega arith);
+      }))
+
+  read-settles : Settles (ReadGiven t b) (refusalOf (withRoom (reading t) b))
+  read-settles = go (headerLine t) refl
+    where
+      go : (o : Option (Front (List ℕ))) → headerLine t ≡ o → Settles (ReadGiven t b) (refusalOf (withRoom (reading t) b))
+      go none e = no-header e
+      go (some x) e = headed-settles t b (x .got) (x .rest) e
+
+  pub read-refuses : (r : Refusal) → ((readOutcome ((readEffect t b) .answer)) .number ≡ numberOf r) ↔ Lowest (ReadGiven t b) r
+  unfolding readEffect readOutcome
+  read-refuses =
+      settles-number read-settles _ (λ q e. rw (refusal-is (withRoom (reading t) b) q e, readEffect)) (λ e. rw (graph-is (withRoom (reading t) b) e .1, readEffect))
+
+-- ---- writing
+
+module _ (g : Graph) (lent : List ℕ) where
+  write-complete : (q : Refusal) → WriteGiven g lent q → ¬ Silent (numberOf q) (writeRefusals g lent)
+  unfolding writeRefusals numberOf
+  write-complete q (WriteGiven.bad-graph h) s = h (denial-off _ (well-formed-iff g) (s .0 refl))
+  write-complete q (WriteGiven.no-room h) s = test-off _ (short-iff (length (textOf g)) lent) (s .1 .0 refl) h
+
+  write-decides : Decides (WriteGiven g lent) (writeRefusals g lent)
+  unfolding writeRefusals ascends
+  write-decides = record {
+    ascending = refl;
+    sound = (λ e. WriteGiven.bad-graph (denial-on _ (well-formed-iff g) e), λ _. (λ e. WriteGiven.no-room (short-iff (length (textOf g)) lent .0 e), λ _. tt));
+    complete = write-complete;
+  }
+
+  pub write-refuses : (r : Refusal) → ((writtenOutcome ((writeEffect g lent) .answer)) .number ≡ numberOf r) ↔ Lowest (WriteGiven g lent) r
+  unfolding writeEffect writtenOutcome
+  write-refuses = settles-number (first-settles write-decides) _ (λ q e. rw (e, writeEffect)) (λ e. rw (e, writeEffect))
