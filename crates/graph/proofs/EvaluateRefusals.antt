@@ -9,12 +9,12 @@ use borrow.Author.Tests.{leb-true, le-leb, eqb-true, eq-eqb}
 use lib.Dec.{leb, eqb}
 use lib.ListN.{length}
 use Rattle.graph.specs.declared.refusal.Refusal.{Refusal}
-use Rattle.graph.specs.Refuse.{numberOf, Lowest}
+use Rattle.graph.specs.Refuse.{firstRefusal, numberOf, Answers}
 use Rattle.graph.specs.Graph.{Net, Graph, free, sinks}
 use Rattle.graph.specs.Evaluate.{isAssignment, Assignment, EvaluateGiven, bad-graph, bad-assignment, no-room, evaluateRefusals, evaluateEffect, evaluatedOutcome}
 use Rattle.graph.proofs.Lists.{and-left, and-right, and-both, all-at, all-of}
 use Rattle.graph.proofs.WellFormed.{well-formed-iff}
-use Rattle.graph.proofs.Refusals.{ascends, Silent, Decides, first-settles, settles-number, test-off, denial-on, denial-off, short-iff}
+use Rattle.graph.proofs.Refusals.{ascends, Silent, Decides, first-settles, settles-answers, test-off, denial-on, denial-off, short-iff, shown}
 
 pub assignment-iff : (net : Net) (vs : List ℕ) → (isAssignment net vs ≡ true) ↔ Assignment net vs
 unfolding isAssignment
@@ -44,6 +44,12 @@ module _ (g : Graph) (vs lent : List ℕ) where
     complete = evaluate-complete;
   }
 
-  pub evaluate-refuses : (r : Refusal) → ((evaluatedOutcome ((evaluateEffect g vs lent) .answer)) .number ≡ numberOf r) ↔ Lowest (EvaluateGiven g vs lent) r
+  pub evaluate-answers : Answers (EvaluateGiven g vs lent) ((evaluatedOutcome ((evaluateEffect g vs lent) .answer)) .number)
   unfolding evaluateEffect evaluatedOutcome
-  evaluate-refuses = settles-number (first-settles evaluate-decides) _ (λ q e. rw (e, evaluateEffect)) (λ e. rw (e, evaluateEffect))
+  evaluate-answers = settles-answers (first-settles evaluate-decides) _ (λ q e. rw (e, evaluateEffect)) (λ e. rw (e, evaluateEffect))
+
+  -- a refusal leaves the lent list as it was
+  pub evaluate-leaves : (r : Refusal) → (evaluatedOutcome ((evaluateEffect g vs lent) .answer)) .number ≡ numberOf r → (evaluateEffect g vs lent) .lent ≡ lent
+  unfolding evaluateEffect evaluatedOutcome
+  evaluate-leaves r e =
+      let s = shown (firstRefusal (evaluateRefusals g vs lent)) _ (λ n. rw (n, evaluateEffect)) r e in rw (s .1, evaluateEffect)

@@ -29,7 +29,7 @@ use Rattle.graph.specs.declared.refusal.Refusal.the-variants.{
   OrderLost,
   NoRoom,
 }
-use Rattle.graph.specs.Refuse.{Row, firstRefusal, numberOf, Lowest}
+use Rattle.graph.specs.Refuse.{Row, firstRefusal, numberOf, Lowest, Answers}
 use Rattle.graph.specs.Lent.{short, Buffers, noRoomFor, NoRoomFor, few-gate-words, few-output-words}
 use Rattle.graph.specs.Graph.{Graph}
 use Rattle.graph.proofs.Lists.{at-most-or-above, and-left, and-right}
@@ -122,10 +122,21 @@ module _ {given : Refusal → Type 0} where
   settles-none (gives {r = q} l) = (λ e. absurd (Option·some-ne-none q e), λ n. absurd (n q (l .holds)))
   settles-none (clears n) = (λ e. n, λ m. refl)
 
-  -- the number that shows an answer is a refusal's if and only if that refusal is the lowest given
-  pub settles-number : {o : Option Refusal} → Settles given o → (n : ℕ) → ((q : Refusal) → o ≡ some q → n ≡ numberOf q) → (o ≡ none → n ≡ 0) → (r : Refusal) → (n ≡ numberOf r) ↔ Lowest given r
-  settles-number (gives {r = q} l) n h k r = (λ e. subst (Lowest given) (numberOf-injective q r (sym (h q refl) ∙ e)) l, λ m. h q refl ∙ ap numberOf (lowest-one l m))
-  settles-number (clears c) n h k r = (λ e. absurd (numberOf-not-zero r (sym (k refl) ∙ e)), λ m. absurd (c r (m .holds)))
+  -- a number that shows what settles is the answer's
+  pub settles-answers : {o : Option Refusal} → Settles given o → (n : ℕ) → ((q : Refusal) → o ≡ some q → n ≡ numberOf q) → (o ≡ none → n ≡ 0) → Answers given n
+  settles-answers (gives {r = q} l) n h k = record {
+    refuses = λ r. (λ e. subst (Lowest given) (numberOf-injective q r (sym (h q refl) ∙ e)) l, λ m. h q refl ∙ ap numberOf (lowest-one l m));
+    accepts = (λ e. absurd (numberOf-not-zero q (sym e ∙ h q refl)), λ c. absurd (c q (l .holds)));
+  }
+  settles-answers (clears c) n h k = record {
+    refuses = λ r. (λ e. absurd (numberOf-not-zero r (sym (k refl) ∙ e)), λ m. absurd (c r (m .holds)));
+    accepts = (λ e. c, λ m. k refl);
+  }
+
+-- where an answer's number is a refusal's, a refusal was given
+pub shown : (o : Option Refusal) (n : ℕ) → (o ≡ none → n ≡ 0) → (r : Refusal) → n ≡ numberOf r → (q : Refusal) × (o ≡ some q)
+shown none n k r e = absurd (numberOf-not-zero r (sym (k refl) ∙ e))
+shown (some q) n k r e = (q, refl)
 
 -- a part that has all that is lower settles first, and the rest where nothing of the part is given
 pub settles-then : {part whole : Refusal → Type 0} {o p : Option Refusal} → ((q : Refusal) → part q → whole q) → ((q r : Refusal) → whole q → part r → numberOf q < numberOf r → part q) → Settles part o → (((q : Refusal) → ¬ part q) → Settles whole p) → Settles whole (orElse o p)

@@ -1,7 +1,9 @@
 -- What comes back: the refusals by name and number, and which one is given.
 -- Assumes nothing.
 use Prim.Native.Nat.{ℕ, _<_}
+use mathlib.Core.Path.{_≡_}
 use mathlib.Core.Bool.{Bool, cond}
+use mathlib.Core.Logic.{_↔_}
 use mathlib.Core.List.{List, [], _∷_}
 use mathlib.Core.Option.{Option, none, some}
 use Rattle.graph.specs.declared.refusal.Refusal.{Refusal}
@@ -73,3 +75,8 @@ refused r = record { number = numberOf r; values = [] }
 pub record Lowest (given : Refusal → Type 0) (r : Refusal) : Type 0 where
   pub holds : given r
   pub none-lower : (q : Refusal) → numberOf q < numberOf r → ¬ given q
+
+-- the number of an answer: the lowest refusal's, or 0 where none is given
+pub record Answers (given : Refusal → Type 0) (number : ℕ) : Type 0 where
+  pub refuses : (r : Refusal) → (number ≡ numberOf r) ↔ Lowest given r
+  pub accepts : (number ≡ 0) ↔ ((q : Refusal) → ¬ given q)

@@ -1,6 +1,6 @@
 -- Listing: the refusal given is the lowest that holds, and NO ROOM comes with the record count needed.
 -- Assumes nothing.
-use mathlib.Core.Path.{_≡_, refl, ap, subst, _∙_}
+use mathlib.Core.Path.{_≡_, refl, sym, ap, subst, _∙_}
 use mathlib.Core.Bool.{Bool, true, false}
 use mathlib.Core.List.{List, [], _∷_, _++_}
 use mathlib.Core.Logic.{_↔_, _⊎_, inl, inr}
@@ -11,9 +11,9 @@ use lib.ListN.{length}
 use Rattle.graph.specs.declared.refusal.Refusal.{Refusal}
 use Rattle.graph.specs.declared.refusal.Refusal.the-variants.{NoRoom}
 use Rattle.graph.specs.Lent.{short}
-use Rattle.graph.specs.Refuse.{Row, _⇒_, firstRefusal, Outcome, accepted, refused, numberOf, Lowest}
+use Rattle.graph.specs.Refuse.{Row, _⇒_, firstRefusal, Outcome, accepted, refused, numberOf, Answers}
 use Rattle.graph.specs.Graph.{Graph}
-use Rattle.graph.proofs.Refusals.{Decides, Silent, Settles, ascends, first-settles, first-join, first-lowest, settles-number, decides-join, test-off, short-iff}
+use Rattle.graph.proofs.Refusals.{Decides, Silent, Settles, ascends, first-settles, first-join, first-lowest, settles-answers, decides-join, test-off, short-iff, numberOf-not-zero}
 use Rattle.window.specs.declared.Leaves.{Leaves}
 use Rattle.window.specs.Calls.{rootRefusals, windowRefusals, WindowGiven}
 use Rattle.window.proofs.Refusals.{window-decides, window-at-most}
@@ -65,16 +65,16 @@ module _ (g : Graph) (root : ℕ) (w : Leaves) (lent : List Candidate) where
   unfolding listEffect listedOutcome withList
   by-records e h = rw (e, listEffect, h, withList)
 
-  pub list-refuses : (r : Refusal) → ((listedOutcome ((listEffect g root w lent) .answer)) .number ≡ numberOf r) ↔ Lowest (ListGiven g root w lent) r
+  pub list-answers : Answers (ListGiven g root w lent) ((listedOutcome ((listEffect g root w lent) .answer)) .number)
   unfolding firstRefusal orElse
-  list-refuses = go (firstRefusal (windowRefusals g root w)) refl tooShort refl
+  list-answers = go (firstRefusal (windowRefusals g root w)) refl tooShort refl
       (subst (Settles (ListGiven g root w lent)) (first-join (windowRefusals g root w) _) (first-settles list-decides))
     where
       go : (o : Option Refusal) → firstRefusal (windowRefusals g root w) ≡ o → (t : Bool) → tooShort ≡ t
-          → Settles (ListGiven g root w lent) (orElse o (firstRefusal (t ⇒ NoRoom ∷ []))) → (r : Refusal) → (number outcome ≡ numberOf r) ↔ Lowest (ListGiven g root w lent) r
-      go (some q) e t h s = settles-number s _ (λ r k. ap number (by-refusal q e) ∙ ap numberOf (Option·some-injective q r k)) (λ k. absurd (Option·some-ne-none q k))
-      go none e true h s = settles-number s _ (λ r k. ap number (by-no-room e h) ∙ ap numberOf (Option·some-injective NoRoom r k)) (λ k. absurd (Option·some-ne-none NoRoom k))
-      go none e false h s = settles-number s _ (λ r k. absurd (Option·none-ne-some r k)) (λ _. ap number (by-records e h))
+          → Settles (ListGiven g root w lent) (orElse o (firstRefusal (t ⇒ NoRoom ∷ []))) → Answers (ListGiven g root w lent) (number outcome)
+      go (some q) e t h s = settles-answers s _ (λ r k. ap number (by-refusal q e) ∙ ap numberOf (Option·some-injective q r k)) (λ k. absurd (Option·some-ne-none q k))
+      go none e true h s = settles-answers s _ (λ r k. ap number (by-no-room e h) ∙ ap numberOf (Option·some-injective NoRoom r k)) (λ k. absurd (Option·some-ne-none NoRoom k))
+      go none e false h s = settles-answers s _ (λ r k. absurd (Option·none-ne-some r k)) (λ _. ap number (by-records e h))
 
   -- NO ROOM is said of the list alone, since a window's refusals have lower numbers
   pub no-room-counts : (listedOutcome ((listEffect g root w lent) .answer)) .number ≡ numberOf NoRoom
@@ -86,3 +86,13 @@ module _ (g : Graph) (root : ℕ) (w : Leaves) (lent : List Candidate) where
       go (some q) e t h = absurd (omega (arith, n, ap number (by-refusal q e), window-at-most g root w (first-lowest (window-decides g root w) q .0 e .holds)))
       go none e true h = ap values (by-no-room e h)
       go none e false h = absurd (omega (arith, n, ap number (by-records e h)))
+
+  -- a refusal leaves the lent records as they were
+  pub list-leaves : (r : Refusal) → (listedOutcome ((listEffect g root w lent) .answer)) .number ≡ numberOf r → (listEffect g root w lent) .lent ≡ lent
+  unfolding listEffect withList
+  list-leaves r n = go (firstRefusal (windowRefusals g root w)) refl tooShort refl
+    where
+      go : (o : Option Refusal) → firstRefusal (windowRefusals g root w) ≡ o → (t : Bool) → tooShort ≡ t → (listEffect g root w lent) .lent ≡ lent
+      go (some q) e t h = rw (e, listEffect)
+      go none e true h = rw (e, listEffect, h, withList)
+      go none e false h = absurd (numberOf-not-zero r (sym (ap number (by-records e h)) ∙ n))

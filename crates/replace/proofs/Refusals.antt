@@ -10,10 +10,10 @@ use borrow.Author.Tests.{not-true, not-false}
 use Rattle.graph.specs.declared.refusal.Refusal.{Refusal}
 use Rattle.graph.specs.declared.refusal.Refusal.the-variants.{BadGraph, BadRoot, BadCandidate, NoGain, OrderLost}
 use Rattle.graph.specs.Lent.{Buffers}
-use Rattle.graph.specs.Refuse.{firstRefusal, numberOf, Lowest}
+use Rattle.graph.specs.Refuse.{firstRefusal, numberOf, Lowest, Answers}
 use Rattle.graph.specs.Graph.{Graph}
 use Rattle.graph.proofs.WellFormed.{well-formed-iff}
-use Rattle.graph.proofs.Refusals.{Decides, Silent, ascends, first-settles, settles-number, decides-join, denial-on, denial-off, test-off, eqb-iff, no-room-iff, none-silent, none-parts}
+use Rattle.graph.proofs.Refusals.{Decides, Silent, ascends, first-settles, settles-answers, decides-join, denial-on, denial-off, test-off, eqb-iff, no-room-iff, none-silent, none-parts, shown}
 use Rattle.window.specs.declared.Leaves.{Leaves}
 use Rattle.window.specs.Table.{table, sameTable}
 use Rattle.window.specs.Calls.{windowRefusals, WindowGiven, rootRefusals, by-root, bad-graph, bad-root}
@@ -80,9 +80,14 @@ module _ (g : Graph) (root : ℕ) (w : Leaves) (p : Proposal) where
         ))
         apply-complete
 
-    pub apply-refuses : (r : Refusal) → ((appliedOutcome ((applyEffect g root w p b) .answer)) .number ≡ numberOf r) ↔ Lowest (ApplyGiven g root w p b) r
+    pub apply-answers : Answers (ApplyGiven g root w p b) ((appliedOutcome ((applyEffect g root w p b) .answer)) .number)
     unfolding applyEffect appliedOutcome
-    apply-refuses = settles-number (first-settles apply-decides) _ (λ q e. rw (e, applyEffect)) (λ e. rw (e, applyEffect))
+    apply-answers = settles-answers (first-settles apply-decides) _ (λ q e. rw (e, applyEffect)) (λ e. rw (e, applyEffect))
+
+    -- a refusal leaves the lent lists as they were
+    pub apply-leaves : (r : Refusal) → (appliedOutcome ((applyEffect g root w p b) .answer)) .number ≡ numberOf r → (applyEffect g root w p b) .lent ≡ b
+    unfolding applyEffect appliedOutcome
+    apply-leaves r e = let s = shown (firstRefusal (applyRefusals g root w p b)) _ (λ n. rw (n, applyEffect)) r e in rw (s .1, applyEffect)
 
     pub apply-accepted : firstRefusal (applyRefusals g root w p b) ≡ none → Accepted g root w p
     unfolding applyRefusals numberOf
@@ -106,4 +111,4 @@ module _ (g : Graph) (root : ℕ) (w : Leaves) (p : Proposal) where
         l .none-lower BadCandidate (omega arith) (bad-candidate (λ rule. h (finished-well-formed g (ok .lawful) root (used .is-gate) w p rule ok)))))))))))
 
     pub order-lost-never-given : ¬ ((appliedOutcome ((applyEffect g root w p b) .answer)) .number ≡ numberOf OrderLost)
-    order-lost-never-given e = let l = apply-refuses OrderLost .0 e in never-given l (l .holds)
+    order-lost-never-given e = let l = apply-answers .refuses OrderLost .0 e in never-given l (l .holds)

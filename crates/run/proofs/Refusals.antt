@@ -5,10 +5,10 @@ use mathlib.Core.Bool.{true, _||_}
 use mathlib.Core.Logic.{_↔_, _⊎_, inl, inr, ⊎-elim}
 use Rattle.graph.specs.declared.refusal.Refusal.{Refusal}
 use Rattle.graph.specs.Lent.{noRoomFor, NoRoomFor}
-use Rattle.graph.specs.Refuse.{numberOf, Lowest}
+use Rattle.graph.specs.Refuse.{firstRefusal, numberOf, Answers}
 use Rattle.graph.specs.Graph.{Graph}
 use Rattle.graph.proofs.WellFormed.{well-formed-iff}
-use Rattle.graph.proofs.Refusals.{Decides, Silent, ascends, first-settles, settles-number, denial-on, denial-off, test-off, or-iff, no-room-iff}
+use Rattle.graph.proofs.Refusals.{Decides, Silent, ascends, first-settles, settles-answers, denial-on, denial-off, test-off, or-iff, no-room-iff, shown}
 use Rattle.run.specs.Calls.{RunBuffers, RunGiven, bad-graph, no-room-for-result, no-room-for-work, runRefusals, runEffect, ranOutcome}
 
 module _ (g : Graph) (b : RunBuffers) where
@@ -33,6 +33,11 @@ module _ (g : Graph) (b : RunBuffers) where
     complete = run-complete;
   }
 
-  pub run-refuses : (r : Refusal) → ((ranOutcome ((runEffect g b) .answer)) .number ≡ numberOf r) ↔ Lowest (RunGiven g b) r
+  pub run-answers : Answers (RunGiven g b) ((ranOutcome ((runEffect g b) .answer)) .number)
   unfolding runEffect ranOutcome
-  run-refuses = settles-number (first-settles run-decides) _ (λ q e. rw (e, runEffect)) (λ e. rw (e, runEffect))
+  run-answers = settles-answers (first-settles run-decides) _ (λ q e. rw (e, runEffect)) (λ e. rw (e, runEffect))
+
+  -- a refusal leaves all four lent lists as they were
+  pub run-leaves : (r : Refusal) → (ranOutcome ((runEffect g b) .answer)) .number ≡ numberOf r → (runEffect g b) .lent ≡ b
+  unfolding runEffect ranOutcome
+  run-leaves r e = let s = shown (firstRefusal (runRefusals g b)) _ (λ n. rw (n, runEffect)) r e in rw (s .1, runEffect)

@@ -12,11 +12,11 @@ use lib.Dec.{leb, ltb, eqb}
 use lib.ListN.{length}
 use Rattle.graph.specs.declared.refusal.Refusal.{Refusal}
 use Rattle.graph.specs.declared.refusal.Refusal.the-variants.{NoRoom}
-use Rattle.graph.specs.Refuse.{Row, firstRefusal, numberOf, Lowest}
+use Rattle.graph.specs.Refuse.{Row, firstRefusal, numberOf, Lowest, Answers}
 use Rattle.graph.specs.Lent.{Buffers, noRoomFor, NoRoomFor}
 use Rattle.graph.specs.Graph.{Graph, mostInputs, mostOutputs, mostGates}
 use Rattle.graph.proofs.WellFormed.{well-formed-iff}
-use Rattle.graph.proofs.Refusals.{numberOf-not-zero, Settles, gives, clears, settles-then, settles-number, Decides, Silent, ascends, first-settles, first-none, denial-on, denial-off, test-off, or-iff, ltb-iff, eqb-iff, short-iff, no-room-iff}
+use Rattle.graph.proofs.Refusals.{numberOf-not-zero, Settles, gives, clears, settles-then, settles-answers, Decides, Silent, ascends, first-settles, first-none, denial-on, denial-off, test-off, or-iff, ltb-iff, eqb-iff, short-iff, no-room-iff, shown}
 use Rattle.text.specs.Number.{Front, front}
 use Rattle.text.specs.States.{States, textOf}
 use Rattle.text.specs.Reading.{Header, headerOf, headerLine, mostBytes, headerRefusals, Needed, linesNeeded, Lines, wrong, right, readLines, Reading, refuses, yields, graphRead, readBody, reading}
@@ -208,10 +208,17 @@ module _ (t : List ℕ) (b : Buffers) where
       go none e = no-header e
       go (some x) e = headed-settles t b (x .got) (x .rest) e
 
-  pub read-refuses : (r : Refusal) → ((readOutcome ((readEffect t b) .answer)) .number ≡ numberOf r) ↔ Lowest (ReadGiven t b) r
+  pub read-answers : Answers (ReadGiven t b) ((readOutcome ((readEffect t b) .answer)) .number)
   unfolding readEffect readOutcome
-  read-refuses =
-      settles-number read-settles _ (λ q e. rw (refusal-is (withRoom (reading t) b) q e, readEffect)) (λ e. rw (graph-is (withRoom (reading t) b) e .1, readEffect))
+  read-answers =
+      settles-answers read-settles _ (λ q e. rw (refusal-is (withRoom (reading t) b) q e, readEffect)) (λ e. rw (graph-is (withRoom (reading t) b) e .1, readEffect))
+
+  -- a refusal leaves the lent lists as they were
+  pub read-leaves : (r : Refusal) → (readOutcome ((readEffect t b) .answer)) .number ≡ numberOf r → (readEffect t b) .lent ≡ b
+  unfolding readEffect readOutcome
+  read-leaves r e =
+      let s = shown (refusalOf (withRoom (reading t) b)) _ (λ n. rw (graph-is (withRoom (reading t) b) n .1, readEffect)) r e in
+      rw (refusal-is (withRoom (reading t) b) (s .0) (s .1), readEffect)
 
 -- ---- writing
 
@@ -229,6 +236,11 @@ module _ (g : Graph) (lent : List ℕ) where
     complete = write-complete;
   }
 
-  pub write-refuses : (r : Refusal) → ((writtenOutcome ((writeEffect g lent) .answer)) .number ≡ numberOf r) ↔ Lowest (WriteGiven g lent) r
+  pub write-answers : Answers (WriteGiven g lent) ((writtenOutcome ((writeEffect g lent) .answer)) .number)
   unfolding writeEffect writtenOutcome
-  write-refuses = settles-number (first-settles write-decides) _ (λ q e. rw (e, writeEffect)) (λ e. rw (e, writeEffect))
+  write-answers = settles-answers (first-settles write-decides) _ (λ q e. rw (e, writeEffect)) (λ e. rw (e, writeEffect))
+
+  -- a refusal leaves the lent bytes as they were
+  pub write-leaves : (r : Refusal) → (writtenOutcome ((writeEffect g lent) .answer)) .number ≡ numberOf r → (writeEffect g lent) .lent ≡ lent
+  unfolding writeEffect writtenOutcome
+  write-leaves r e = let s = shown (firstRefusal (writeRefusals g lent)) _ (λ n. rw (n, writeEffect)) r e in rw (s .1, writeEffect)

@@ -8,12 +8,12 @@ use Prim.Native.Nat.{ℕ, _≤_}
 use native.Mathlib.Omega.{arith}
 use Rattle.graph.specs.declared.refusal.Refusal.{Refusal}
 use Rattle.graph.specs.declared.refusal.Refusal.the-variants.{BadRoot, NotACut}
-use Rattle.graph.specs.Refuse.{firstRefusal, numberOf, Lowest}
+use Rattle.graph.specs.Refuse.{firstRefusal, numberOf, Answers}
 use Rattle.graph.specs.Graph.{Graph, wellFormed, WellFormed}
 use Rattle.graph.specs.Use.{inUse, InUse}
 use Rattle.graph.proofs.WellFormed.{well-formed-iff}
 use Rattle.graph.proofs.Use.{in-use-iff}
-use Rattle.graph.proofs.Refusals.{Decides, Silent, ascends, first-settles, settles-number, decides-join, denial-on, denial-off, none-silent}
+use Rattle.graph.proofs.Refusals.{Decides, Silent, ascends, first-settles, settles-answers, decides-join, denial-on, denial-off, none-silent}
 use Rattle.window.specs.declared.Leaves.{Leaves}
 use Rattle.window.specs.Leaves.{WellSet}
 use Rattle.window.specs.Local.{covered, Covered}
@@ -65,9 +65,9 @@ module _ (g : Graph) (root : ℕ) where
     complete = root-complete;
   }
 
-  pub pick-refuses : (r : Refusal) → ((pickOutcome (pickAnswer g root)) .number ≡ numberOf r) ↔ Lowest (RootGiven g root) r
+  pub pick-answers : Answers (RootGiven g root) ((pickOutcome (pickAnswer g root)) .number)
   unfolding pickAnswer pickOutcome verdictOutcome
-  pick-refuses = settles-number (first-settles root-decides) _ (λ q e. rw (e, pickAnswer)) (λ e. rw (e, pickAnswer))
+  pick-answers = settles-answers (first-settles root-decides) _ (λ q e. rw (e, pickAnswer)) (λ e. rw (e, pickAnswer))
 
 -- ---- leaves besides that cut the root
 
@@ -122,6 +122,6 @@ module _ (g : Graph) (root : ℕ) (w : Leaves) where
   window-at-most (bad-leaves h) = omega arith
   window-at-most (not-a-cut h) = omega arith
 
-  pub table-refuses : (r : Refusal) → ((tableOutcome (tableAnswer g root w)) .number ≡ numberOf r) ↔ Lowest (WindowGiven g root w) r
+  pub table-answers : Answers (WindowGiven g root w) ((tableOutcome (tableAnswer g root w)) .number)
   unfolding tableAnswer tableOutcome
-  table-refuses = settles-number (first-settles window-decides) _ (λ q e. rw (e, tableAnswer)) (λ e. rw (e, tableAnswer))
+  table-answers = settles-answers (first-settles window-decides) _ (λ q e. rw (e, tableAnswer)) (λ e. rw (e, tableAnswer))
