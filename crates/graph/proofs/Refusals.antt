@@ -138,6 +138,11 @@ pub shown : (o : Option Refusal) (n : ℕ) → (o ≡ none → n ≡ 0) → (r :
 shown none n k r e = absurd (numberOf-not-zero r (sym (k refl) ∙ e))
 shown (some q) n k r e = (q, refl)
 
+-- where it is 0 none was given
+pub none-shown : (o : Option Refusal) (n : ℕ) → ((q : Refusal) → o ≡ some q → n ≡ numberOf q) → n ≡ 0 → o ≡ none
+none-shown none n h e = refl
+none-shown (some q) n h e = absurd (numberOf-not-zero q (sym e ∙ h q refl))
+
 -- a part that has all that is lower settles first, and the rest where nothing of the part is given
 pub settles-then : {part whole : Refusal → Type 0} {o p : Option Refusal} → ((q : Refusal) → part q → whole q) → ((q r : Refusal) → whole q → part r → numberOf q < numberOf r → part q) → Settles part o → (((q : Refusal) → ¬ part q) → Settles whole p) → Settles whole (orElse o p)
 unfolding orElse

@@ -66,10 +66,10 @@ module _ (g : Graph) where
   -- ---- a reached variable is marked: fanins are lower, so one pass from the highest gate down meets each gate after all that name it
 
   module _ (ok : Lawful g) where
-    first-lower : (v : ℕ) → IsGate (g .net) v → varOf (first (g .net) v) < v
+    pub first-lower : (v : ℕ) → IsGate (g .net) v → varOf (first (g .net) v) < v
     first-lower v i = let b = ok .below v i in omega arith
 
-    second-lower : (v : ℕ) → IsGate (g .net) v → varOf (second (g .net) v) < v
+    pub second-lower : (v : ℕ) → IsGate (g .net) v → varOf (second (g .net) v) < v
     second-lower v i = let b = ok .below v i in let o = ok .ordered v i in omega arith
 
     -- the pass over the gates up to the k-th marks nothing above them

@@ -3,17 +3,23 @@
 use mathlib.Core.Path.{_≡_, refl, sym, ap, _∙_}
 use mathlib.Core.Bool.{true}
 use mathlib.Core.Logic.{_↔_}
-use Prim.Native.Nat.{ℕ, suc, _+_, _-_, _*_, _≤_, _<_}
+use Prim.Native.Nat.{ℕ, suc, _+_, _-_, _*_, _≤_, _<_, max, min}
 use native.Mathlib.Omega.{arith}
 use borrow.Author.Tests.{leb-true, ltb-true, eqb-true, le-leb, lt-ltb, eq-eqb}
 use lib.Dec.{leb, ltb}
+use lib.ListN.{getD}
 use Rattle.graph.specs.Lists.{every, allBelow}
-use Rattle.graph.specs.Graph.{Net, Graph, free, size, sinks, first, second, gateOk, sinkOk, rules, wellFormed, IsGate, WellFormed}
+use Rattle.graph.specs.Graph.{Net, Graph, free, size, sinks, first, second, largerFirst, gateOk, sinkOk, rules, wellFormed, IsGate, WellFormed}
 use Rattle.graph.proofs.Lists.{and-left, and-right, and-both, every-at, every-of, done, _then_, allBelow-at, allBelow-of, all-at, all-of}
 
 well-is : (g : Graph) → wellFormed g ≡ every (rules g)
 unfolding wellFormed
 well-is g = refl
+
+-- the words of a gate over two literals: the larger, then the smaller
+pub larger-first : (a b : ℕ) → (getD (largerFirst a b) 0 0 ≡ max a b) × (getD (largerFirst a b) 1 0 ≡ min a b)
+unfolding largerFirst
+larger-first a b = (refl, refl)
 
 -- the two facts of a gate
 module _ (net : Net) (v : ℕ) where

@@ -1,1 +1,4 @@
 pub mod Bench
+pub mod Answers
+pub mod Meaning
+pub mod Search

@@ -1,9 +1,9 @@
 -- Applying a proposal: the refusal given is the lowest that holds, what is known where none does, and that the order is never lost.
 -- Assumes nothing.
 use mathlib.Core.Path.{_≡_, refl, sym, _∙_}
+use mathlib.Core.Option.{none}
 use mathlib.Core.Bool.{true, false≢true}
 use mathlib.Core.Logic.{_↔_, _⊎_, inl, inr}
-use mathlib.Core.Option.{none}
 use Prim.Native.Nat.{ℕ}
 use native.Mathlib.Omega.{arith}
 use borrow.Author.Tests.{not-true, not-false}
@@ -13,7 +13,7 @@ use Rattle.graph.specs.Lent.{Buffers}
 use Rattle.graph.specs.Refuse.{firstRefusal, numberOf, Lowest, Answers}
 use Rattle.graph.specs.Graph.{Graph}
 use Rattle.graph.proofs.WellFormed.{well-formed-iff}
-use Rattle.graph.proofs.Refusals.{Decides, Silent, ascends, first-settles, settles-answers, decides-join, denial-on, denial-off, test-off, eqb-iff, no-room-iff, none-silent, none-parts, shown}
+use Rattle.graph.proofs.Refusals.{Decides, Silent, ascends, first-settles, settles-answers, decides-join, denial-on, denial-off, test-off, eqb-iff, no-room-iff, none-silent, none-parts, shown, none-shown}
 use Rattle.window.specs.declared.Leaves.{Leaves}
 use Rattle.window.specs.Table.{table, sameTable}
 use Rattle.window.specs.Calls.{windowRefusals, WindowGiven, rootRefusals, by-root, bad-graph, bad-root}
@@ -89,10 +89,15 @@ module _ (g : Graph) (root : ℕ) (w : Leaves) (p : Proposal) where
     unfolding applyEffect appliedOutcome
     apply-leaves r e = let s = shown (firstRefusal (applyRefusals g root w p b)) _ (λ n. rw (n, applyEffect)) r e in rw (s .1, applyEffect)
 
-    pub apply-accepted : firstRefusal (applyRefusals g root w p b) ≡ none → Accepted g root w p
+    none-given : (appliedOutcome ((applyEffect g root w p b) .answer)) .number ≡ 0 → firstRefusal (applyRefusals g root w p b) ≡ none
+    unfolding applyEffect appliedOutcome
+    none-given e = none-shown (firstRefusal (applyRefusals g root w p b)) _ (λ q r. rw (r, applyEffect)) e
+
+    -- a proposal that is not refused is all that is asked
+    pub apply-accepted : (appliedOutcome ((applyEffect g root w p b) .answer)) .number ≡ 0 → Accepted g root w p
     unfolding applyRefusals numberOf
     apply-accepted e =
-        let parts = none-parts (windowRefusals g root w) _ e in
+        let parts = none-parts (windowRefusals g root w) _ (none-given e) in
         let s = none-silent (numberOf NoGain) _ (parts .1) in
         record {
           window = window-accepted g root w (parts .0);

@@ -12,6 +12,7 @@ use lib.ListN.{length, getD, length-map, List·getD-map}
 use Rattle.graph.specs.Literal.{varOf, flip}
 use Rattle.graph.specs.Graph.{Net, Graph, free, size, last, sinks, first, second, largerFirst, IsGate, Lawful, WellFormed}
 use Rattle.graph.proofs.Lists.{equal-or-not}
+use Rattle.graph.proofs.WellFormed.{larger-first}
 use Rattle.graph.proofs.Gather.{length-gather, getD-gather}
 use Rattle.graph.proofs.Drop.{dropped-well-formed}
 use Rattle.window.specs.declared.Leaves.{Leaves}
@@ -71,11 +72,12 @@ module _ (net : Net) (root : ℕ) (p : Proposal) where
         ∙ ap (λ (u : ℕ). getD (rewiredGate net root p u) j 0) e
 
     words : (a b : ℕ) → rewiredGate net root p v ≡ largerFirst a b → (first (rewiredNet net root p) v ≡ max a b) × (second (rewiredNet net root p) v ≡ min a b)
-    unfolding first second largerFirst rewiredNet
-    words a b e = (
-      ap (λ (j : ℕ). getD (rewiredNet net root p .gates) j 0) (omega arith) ∙ word-at 0 (omega arith) ∙ ap (λ (xs : List ℕ). getD xs 0 0) e,
-      ap (λ (j : ℕ). getD (rewiredNet net root p .gates) j 0) (omega arith) ∙ word-at 1 (omega arith) ∙ ap (λ (xs : List ℕ). getD xs 1 0) e,
-    )
+    unfolding first second rewiredNet
+    words a b e =
+        let h = larger-first a b in (
+          ap (λ (j : ℕ). getD (rewiredNet net root p .gates) j 0) (omega arith) ∙ word-at 0 (omega arith) ∙ ap (λ (xs : List ℕ). getD xs 0 0) e ∙ h .0,
+          ap (λ (j : ℕ). getD (rewiredNet net root p .gates) j 0) (omega arith) ∙ word-at 1 (omega arith) ∙ ap (λ (xs : List ℕ). getD xs 1 0) e ∙ h .1,
+        )
 
     -- the first and the second word of a gate are the larger and the smaller of two literals
     abbrev pub Holds : ℕ → ℕ → Type 0

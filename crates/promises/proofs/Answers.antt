@@ -1,0 +1,62 @@
+-- Demand 1: each call ends with its one value or with the one refusal that the order selects, and a refusal writes nothing.
+-- Assumes nothing.
+use mathlib.Core.Path.{_≡_}
+use mathlib.Core.List.{List}
+use Prim.Native.Nat.{ℕ}
+use Rattle.graph.specs.declared.refusal.Refusal.the-variants.{OrderLost}
+use Rattle.graph.specs.Refuse.{numberOf, Answers}
+use Rattle.graph.specs.Lent.{Buffers}
+use Rattle.graph.specs.Graph.{Graph}
+use Rattle.graph.specs.Evaluate.{EvaluateGiven, evaluateEffect, evaluatedOutcome}
+use Rattle.graph.proofs.EvaluateRefusals.{evaluate-answers, evaluate-leaves}
+use Rattle.text.specs.Refusals.{ReadGiven, WriteGiven}
+use Rattle.text.specs.Calls.{readEffect, readOutcome, writeEffect, writtenOutcome}
+use Rattle.text.proofs.Refusals.{read-answers, read-leaves, write-answers, write-leaves}
+use Rattle.window.specs.declared.Leaves.{Leaves}
+use Rattle.window.specs.Calls.{RootGiven, pickAnswer, pickOutcome, WindowGiven, tableAnswer, tableOutcome}
+use Rattle.window.proofs.Refusals.{pick-answers, table-answers}
+use Rattle.replace.specs.declared.Proposal.{Proposal}
+use Rattle.replace.specs.Calls.{ApplyGiven, applyEffect, appliedOutcome}
+use Rattle.replace.proofs.Refusals.{apply-answers, apply-leaves, order-lost-never-given}
+use Rattle.listing.specs.declared.Candidate.{Candidate}
+use Rattle.listing.specs.Calls.{ListGiven, listEffect, listedOutcome}
+use Rattle.listing.proofs.Refusals.{list-answers, list-leaves}
+use Rattle.run.specs.Calls.{RunBuffers, RunGiven, runEffect, ranOutcome}
+use Rattle.run.proofs.Refusals.{run-answers, run-leaves}
+use Rattle.promises.specs.Promises.{Settled}
+
+-- ---- calls on lent memory
+
+pub read-settled : (t : List ℕ) (b : Buffers) → Settled (ReadGiven t b) ((readOutcome ((readEffect t b) .answer)) .number) b ((readEffect t b) .lent)
+read-settled t b = record { answers = read-answers t b; writes-nothing = read-leaves t b }
+
+pub write-settled : (g : Graph) (lent : List ℕ) → Settled (WriteGiven g lent) ((writtenOutcome ((writeEffect g lent) .answer)) .number) lent ((writeEffect g lent) .lent)
+write-settled g lent = record { answers = write-answers g lent; writes-nothing = write-leaves g lent }
+
+pub evaluate-settled : (g : Graph) (vs lent : List ℕ)
+    → Settled (EvaluateGiven g vs lent) ((evaluatedOutcome ((evaluateEffect g vs lent) .answer)) .number) lent ((evaluateEffect g vs lent) .lent)
+evaluate-settled g vs lent = record { answers = evaluate-answers g vs lent; writes-nothing = evaluate-leaves g vs lent }
+
+pub list-settled : (g : Graph) (root : ℕ) (w : Leaves) (lent : List Candidate)
+    → Settled (ListGiven g root w lent) ((listedOutcome ((listEffect g root w lent) .answer)) .number) lent ((listEffect g root w lent) .lent)
+list-settled g root w lent = record { answers = list-answers g root w lent; writes-nothing = list-leaves g root w lent }
+
+pub apply-settled : (g : Graph) (root : ℕ) (w : Leaves) (p : Proposal) (b : Buffers)
+    → Settled (ApplyGiven g root w p b) ((appliedOutcome ((applyEffect g root w p b) .answer)) .number) b ((applyEffect g root w p b) .lent)
+apply-settled g root w p b = record { answers = apply-answers g root w p b; writes-nothing = apply-leaves g root w p b }
+
+pub run-settled : (g : Graph) (b : RunBuffers) → Settled (RunGiven g b) ((ranOutcome ((runEffect g b) .answer)) .number) b ((runEffect g b) .lent)
+run-settled g b = record { answers = run-answers g b; writes-nothing = run-leaves g b }
+
+-- ---- calls that write nothing at all
+
+pub pick-settled : (g : Graph) (root : ℕ) → Answers (RootGiven g root) ((pickOutcome (pickAnswer g root)) .number)
+pick-settled = pick-answers
+
+pub table-settled : (g : Graph) (root : ℕ) (w : Leaves) → Answers (WindowGiven g root w) ((tableOutcome (tableAnswer g root w)) .number)
+table-settled = table-answers
+
+-- ---- ORDER LOST is never given
+
+pub order-is-never-lost : (g : Graph) (root : ℕ) (w : Leaves) (p : Proposal) (b : Buffers) → ¬ ((appliedOutcome ((applyEffect g root w p b) .answer)) .number ≡ numberOf OrderLost)
+order-is-never-lost = order-lost-never-given
