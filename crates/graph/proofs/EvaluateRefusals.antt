@@ -14,7 +14,9 @@ use Rattle.graph.specs.Graph.{Net, Graph, free, sinks}
 use Rattle.graph.specs.Evaluate.{isAssignment, Assignment, EvaluateGiven, bad-graph, bad-assignment, no-room, evaluateRefusals, evaluateEffect, evaluatedOutcome}
 use Rattle.graph.proofs.Lists.{and-left, and-right, and-both, all-at, all-of}
 use Rattle.graph.proofs.WellFormed.{well-formed-iff}
-use Rattle.graph.proofs.Refusals.{ascends, Silent, Decides, first-settles, settles-answers, test-off, denial-on, denial-off, short-iff, shown}
+use Rattle.graph.proofs.Settles.{settles-answers, shown}
+use Rattle.graph.proofs.Rows.{ascends, Silent, Decides, first-settles}
+use Rattle.graph.proofs.Tests.{test-off, denial-on, denial-off, short-iff}
 
 pub assignment-iff : (net : Net) (vs : List ℕ) → (isAssignment net vs ≡ true) ↔ Assignment net vs
 unfolding isAssignment

@@ -10,5 +10,7 @@ pub mod Renumber
 pub mod Stand
 pub mod Drop
 pub mod DropKeeps
-pub mod Refusals
+pub mod Settles
+pub mod Rows
+pub mod Tests
 pub mod EvaluateRefusals

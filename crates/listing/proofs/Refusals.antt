@@ -13,7 +13,9 @@ use Rattle.graph.specs.declared.refusal.Refusal.the-variants.{NoRoom}
 use Rattle.graph.specs.Lent.{short}
 use Rattle.graph.specs.Refuse.{Row, _⇒_, firstRefusal, Outcome, accepted, refused, numberOf, Answers}
 use Rattle.graph.specs.Graph.{Graph}
-use Rattle.graph.proofs.Refusals.{Decides, Silent, Settles, ascends, first-settles, first-join, first-lowest, settles-answers, decides-join, test-off, short-iff, numberOf-not-zero}
+use Rattle.graph.proofs.Settles.{Settles, settles-answers, numberOf-not-zero}
+use Rattle.graph.proofs.Rows.{Decides, Silent, ascends, first-settles, first-join, first-lowest, decides-join}
+use Rattle.graph.proofs.Tests.{test-off, short-iff}
 use Rattle.window.specs.declared.Leaves.{Leaves}
 use Rattle.window.specs.Calls.{rootRefusals, windowRefusals, WindowGiven}
 use Rattle.window.proofs.Refusals.{window-decides, window-at-most}

@@ -13,7 +13,9 @@ use Rattle.graph.specs.Lent.{Buffers}
 use Rattle.graph.specs.Refuse.{firstRefusal, numberOf, Lowest, Answers}
 use Rattle.graph.specs.Graph.{Graph}
 use Rattle.graph.proofs.WellFormed.{well-formed-iff}
-use Rattle.graph.proofs.Refusals.{Decides, Silent, ascends, first-settles, settles-answers, decides-join, denial-on, denial-off, test-off, eqb-iff, no-room-iff, none-silent, none-parts, shown, none-shown}
+use Rattle.graph.proofs.Settles.{settles-answers, shown, none-shown}
+use Rattle.graph.proofs.Rows.{Decides, Silent, ascends, first-settles, decides-join, none-silent, none-parts}
+use Rattle.graph.proofs.Tests.{denial-on, denial-off, test-off, eqb-iff, no-room-iff}
 use Rattle.window.specs.declared.Leaves.{Leaves}
 use Rattle.window.specs.Table.{table, sameTable}
 use Rattle.window.specs.Calls.{windowRefusals, WindowGiven, rootRefusals, by-root, bad-graph, bad-root}

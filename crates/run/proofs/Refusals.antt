@@ -8,7 +8,9 @@ use Rattle.graph.specs.Lent.{noRoomFor, NoRoomFor}
 use Rattle.graph.specs.Refuse.{firstRefusal, numberOf, Answers}
 use Rattle.graph.specs.Graph.{Graph}
 use Rattle.graph.proofs.WellFormed.{well-formed-iff}
-use Rattle.graph.proofs.Refusals.{Decides, Silent, ascends, first-settles, settles-answers, denial-on, denial-off, test-off, or-iff, no-room-iff, shown}
+use Rattle.graph.proofs.Settles.{settles-answers, shown}
+use Rattle.graph.proofs.Rows.{Decides, Silent, ascends, first-settles}
+use Rattle.graph.proofs.Tests.{denial-on, denial-off, test-off, or-iff, no-room-iff}
 use Rattle.run.specs.Calls.{RunBuffers, RunGiven, bad-graph, no-room-for-result, no-room-for-work, runRefusals, runEffect, ranOutcome}
 
 module _ (g : Graph) (b : RunBuffers) where

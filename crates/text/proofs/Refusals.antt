@@ -16,7 +16,9 @@ use Rattle.graph.specs.Refuse.{Row, firstRefusal, numberOf, Lowest, Answers}
 use Rattle.graph.specs.Lent.{Buffers, noRoomFor, NoRoomFor}
 use Rattle.graph.specs.Graph.{Graph, mostInputs, mostOutputs, mostGates}
 use Rattle.graph.proofs.WellFormed.{well-formed-iff}
-use Rattle.graph.proofs.Refusals.{numberOf-not-zero, Settles, gives, clears, settles-then, settles-answers, Decides, Silent, ascends, first-settles, first-none, denial-on, denial-off, test-off, or-iff, ltb-iff, eqb-iff, short-iff, no-room-iff, shown}
+use Rattle.graph.proofs.Settles.{numberOf-not-zero, Settles, gives, clears, settles-then, settles-answers, shown}
+use Rattle.graph.proofs.Rows.{Decides, Silent, ascends, first-settles, first-none}
+use Rattle.graph.proofs.Tests.{denial-on, denial-off, test-off, or-iff, ltb-iff, eqb-iff, short-iff, no-room-iff}
 use Rattle.text.specs.Number.{Front, front}
 use Rattle.text.specs.States.{States, textOf}
 use Rattle.text.specs.Reading.{Header, headerOf, headerLine, mostBytes, headerRefusals, Needed, linesNeeded, Lines, wrong, right, readLines, Reading, refuses, yields, graphRead, readBody, reading}

@@ -13,7 +13,9 @@ use Rattle.graph.specs.Graph.{Graph, wellFormed, WellFormed}
 use Rattle.graph.specs.Use.{inUse, InUse}
 use Rattle.graph.proofs.WellFormed.{well-formed-iff}
 use Rattle.graph.proofs.Use.{in-use-iff}
-use Rattle.graph.proofs.Refusals.{Decides, Silent, ascends, first-settles, settles-answers, decides-join, denial-on, denial-off, none-silent}
+use Rattle.graph.proofs.Settles.{settles-answers}
+use Rattle.graph.proofs.Rows.{Decides, Silent, ascends, first-settles, decides-join, none-silent}
+use Rattle.graph.proofs.Tests.{denial-on, denial-off}
 use Rattle.window.specs.declared.Leaves.{Leaves}
 use Rattle.window.specs.Leaves.{WellSet}
 use Rattle.window.specs.Local.{covered, Covered}
