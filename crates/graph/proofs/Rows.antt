@@ -1,39 +1,18 @@
 -- A table of rows: the first that holds is the lowest refusal given.
 -- Assumes nothing.
-use mathlib.Core.Path.{_≡_, refl, sym, ap, subst, _∙_}
-use mathlib.Core.Bool.{Bool, true, false, _&&_, false≢true, not, cond, _||_}
+use mathlib.Core.Path.{_≡_, refl, sym, _∙_}
+use mathlib.Core.Bool.{Bool, true, false, _&&_, cond}
 use mathlib.Core.List.{List, [], _∷_, _++_}
-use mathlib.Core.Logic.{_↔_, _⊎_, inl, inr, ⊎-elim}
-use mathlib.Core.Option.{Option, none, some, Option·some-injective, Option·none-ne-some, Option·some-ne-none, orElse}
+use mathlib.Core.Logic.{_↔_, _⊎_, ⊎-elim}
+use mathlib.Core.Option.{Option, none, some, Option·some-ne-none, orElse}
 use Prim.Native.Nat.{ℕ, _≤_, _<_}
 use native.Mathlib.Omega.{arith}
-use borrow.Author.Tests.{leb-true, ltb-true, lt-ltb, eqb-true, eq-eqb, not-true, not-false}
-use lib.Dec.{leb, ltb, eqb}
-use lib.ListN.{length, getD}
+use borrow.Author.Tests.{leb-true, ltb-true}
+use lib.Dec.{leb, ltb}
 use Rattle.graph.specs.declared.refusal.Refusal.{Refusal}
-use Rattle.graph.specs.declared.refusal.Refusal.the-variants.{
-  BadHeader,
-  TooLarge,
-  Latches,
-  BadCount,
-  BadLine,
-  BadLiteral,
-  BadGraph,
-  BadAssignment,
-  BadRoot,
-  BadLeaves,
-  NotACut,
-  BadCandidate,
-  NotEqual,
-  NoGain,
-  OrderLost,
-  NoRoom,
-}
-use Rattle.graph.specs.Refuse.{Row, firstRefusal, numberOf, Lowest, Answers}
-use Rattle.graph.specs.Lent.{short, Buffers, noRoomFor, NoRoomFor, few-gate-words, few-output-words}
-use Rattle.graph.specs.Graph.{Graph}
-use Rattle.graph.proofs.Lists.{at-most-or-above, and-left, and-right}
-use Rattle.graph.proofs.Settles.{numberOf-injective, numberOf-not-zero, Settles, gives, clears, lowest-one, settles-lowest, settles-none, settles-answers, shown, none-shown, settles-then}
+use Rattle.graph.specs.Refuse.{Row, firstRefusal, numberOf, Lowest}
+use Rattle.graph.proofs.Lists.{and-left, and-right}
+use Rattle.graph.proofs.Settles.{Settles, gives, clears, settles-lowest, settles-none}
 
 -- the rows' numbers ascend, all above n
 unfoldable pub ascends : ℕ → List Row → Bool

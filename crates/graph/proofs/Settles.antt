@@ -1,15 +1,12 @@
 -- What an answer must be: the lowest of the refusals given, or none; and the number that shows it.
 -- Assumes nothing.
 use mathlib.Core.Path.{_≡_, refl, sym, ap, subst, _∙_}
-use mathlib.Core.Bool.{Bool, true, false, _&&_, false≢true, not, cond, _||_}
-use mathlib.Core.List.{List, [], _∷_, _++_}
-use mathlib.Core.Logic.{_↔_, _⊎_, inl, inr, ⊎-elim}
+use mathlib.Core.List.{[], _∷_}
+use mathlib.Core.Logic.{_↔_, _⊎_, inl, inr}
 use mathlib.Core.Option.{Option, none, some, Option·some-injective, Option·none-ne-some, Option·some-ne-none, orElse}
 use Prim.Native.Nat.{ℕ, _≤_, _<_}
 use native.Mathlib.Omega.{arith}
-use borrow.Author.Tests.{leb-true, ltb-true, lt-ltb, eqb-true, eq-eqb, not-true, not-false}
-use lib.Dec.{leb, ltb, eqb}
-use lib.ListN.{length, getD}
+use lib.ListN.{getD}
 use Rattle.graph.specs.declared.refusal.Refusal.{Refusal}
 use Rattle.graph.specs.declared.refusal.Refusal.the-variants.{
   BadHeader,
@@ -29,10 +26,8 @@ use Rattle.graph.specs.declared.refusal.Refusal.the-variants.{
   OrderLost,
   NoRoom,
 }
-use Rattle.graph.specs.Refuse.{Row, firstRefusal, numberOf, Lowest, Answers}
-use Rattle.graph.specs.Lent.{short, Buffers, noRoomFor, NoRoomFor, few-gate-words, few-output-words}
-use Rattle.graph.specs.Graph.{Graph}
-use Rattle.graph.proofs.Lists.{at-most-or-above, and-left, and-right}
+use Rattle.graph.specs.Refuse.{numberOf, Lowest, Answers}
+use Rattle.graph.proofs.Lists.{at-most-or-above}
 
 -- ---- numbers and names
 

@@ -1,38 +1,15 @@
 -- Tests and the facts that they say: for the rows of refusals, and for the room in lent lists.
 -- Assumes nothing.
-use mathlib.Core.Path.{_≡_, refl, sym, ap, subst, _∙_}
-use mathlib.Core.Bool.{Bool, true, false, _&&_, false≢true, not, cond, _||_}
-use mathlib.Core.List.{List, [], _∷_, _++_}
+use mathlib.Core.Path.{_≡_, refl, sym, _∙_}
+use mathlib.Core.Bool.{Bool, true, false, false≢true, not, _||_}
+use mathlib.Core.List.{List}
 use mathlib.Core.Logic.{_↔_, _⊎_, inl, inr, ⊎-elim}
-use mathlib.Core.Option.{Option, none, some, Option·some-injective, Option·none-ne-some, Option·some-ne-none, orElse}
-use Prim.Native.Nat.{ℕ, _≤_, _<_}
-use native.Mathlib.Omega.{arith}
-use borrow.Author.Tests.{leb-true, ltb-true, lt-ltb, eqb-true, eq-eqb, not-true, not-false}
-use lib.Dec.{leb, ltb, eqb}
-use lib.ListN.{length, getD}
-use Rattle.graph.specs.declared.refusal.Refusal.{Refusal}
-use Rattle.graph.specs.declared.refusal.Refusal.the-variants.{
-  BadHeader,
-  TooLarge,
-  Latches,
-  BadCount,
-  BadLine,
-  BadLiteral,
-  BadGraph,
-  BadAssignment,
-  BadRoot,
-  BadLeaves,
-  NotACut,
-  BadCandidate,
-  NotEqual,
-  NoGain,
-  OrderLost,
-  NoRoom,
-}
-use Rattle.graph.specs.Refuse.{Row, firstRefusal, numberOf, Lowest, Answers}
+use Prim.Native.Nat.{ℕ, _<_}
+use borrow.Author.Tests.{ltb-true, lt-ltb, eqb-true, eq-eqb, not-true, not-false}
+use lib.Dec.{ltb, eqb}
+use lib.ListN.{length}
 use Rattle.graph.specs.Lent.{short, Buffers, noRoomFor, NoRoomFor, few-gate-words, few-output-words}
 use Rattle.graph.specs.Graph.{Graph}
-use Rattle.graph.proofs.Lists.{at-most-or-above, and-left, and-right}
 
 module _ {P : Type 0} (t : Bool) (says : (t ≡ true) ↔ P) where
   pub test-off : t ≡ false → ¬ P
