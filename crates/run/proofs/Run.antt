@@ -98,13 +98,13 @@ steps-from (suc n) g made r b = go (step g) refl (λ h. steps-from n h (suc made
 dropped-ready : (g : Graph) → WellFormed g → Ready (dropped g)
 dropped-ready g w = record { well-formed = dropped-well-formed g (w .lawful) w; all-reached = dropped-all-reached g (w .lawful) }
 
+counted-all : (g : Graph) (e : End) → Counted g 0 e → Steps g (e .made) (e .graph)
+counted-all g e c = let q : c .0 ≡ e .made = omega (arith, c .2) in subst (λ (k : ℕ). Steps g k (e .graph)) q (c .1)
+
 -- the run makes just the steps that there are, and counts them
 pub run-steps : (g : Graph) → WellFormed g → Steps (dropped g) (run g .made) (run g .graph)
 unfolding run
-run-steps g w =
-    let s = steps-from (size (dropped g .net)) (dropped g) 0 (dropped-ready g w) (le-refl _) in
-    let e : s .0 ≡ stepsFrom (size (dropped g .net)) (dropped g) 0 .made = omega (arith, s .2) in
-    subst (λ (k : ℕ). Steps (dropped g) k (stepsFrom (size (dropped g .net)) (dropped g) 0 .graph)) e (s .1)
+run-steps g w = counted-all (dropped g) (run g) (steps-from _ (dropped g) 0 (dropped-ready g w) (le-refl _))
 
 -- ---- what steps keep, the run keeps
 

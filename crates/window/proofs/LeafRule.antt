@@ -5,7 +5,8 @@ use mathlib.Core.Bool.{true}
 use mathlib.Core.List.{List, []}
 use mathlib.Core.Logic.{⊎-elim}
 use mathlib.Core.Option.{Option, none, some}
-use Prim.Native.Nat.{ℕ, zero, suc, _^_, _≤_, _<_}
+use Prim.Native.Nat.{ℕ, zero, suc, _≤_, _<_}
+use native.Mathlib.Nat.{le-of-lt}
 use native.Mathlib.Omega.{arith}
 use lib.ListN.{length}
 use Rattle.graph.specs.Lists.{isIn, keep}
@@ -63,7 +64,7 @@ module _ (g : Graph) (law : Lawful g) (limit root : ℕ) (gate : IsGate (g .net)
 
   pub rule-follows : Follows limit net (withFanins net root []) (ruleLeaves limit net root)
   unfolding ruleLeaves
-  rule-follows = grow-follows (2 ^ root) (withFanins net root []) (start-cuts g law root gate) (omega (arith, start-weighs g law root gate))
+  rule-follows = grow-follows _ (withFanins net root []) (start-cuts g law root gate) (le-of-lt (start-weighs g law root gate))
 
   pub rule-ends : expansions limit net (ruleLeaves limit net root) ≡ []
   rule-ends = follows-ends rule-follows
