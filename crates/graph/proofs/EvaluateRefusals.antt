@@ -51,7 +51,8 @@ module _ (g : Graph) (vs lent : List ℕ) where
   evaluate-answers = settles-answers (first-settles evaluate-decides) _ (λ q e. rw (e, evaluateEffect)) (λ e. rw (e, evaluateEffect))
 
   -- a refusal leaves the lent list as it was
-  pub evaluate-leaves : (r : Refusal) → (evaluatedOutcome ((evaluateEffect g vs lent) .answer)) .number ≡ numberOf r → (evaluateEffect g vs lent) .lent ≡ lent
+  pub evaluate-leaves : (r : Refusal) → (evaluatedOutcome ((evaluateEffect g vs lent) .answer)) .number ≡ numberOf r
+      → (evaluateEffect g vs lent) .lent ≡ lent
   unfolding evaluateEffect evaluatedOutcome
   evaluate-leaves r e =
       let s = shown (firstRefusal (evaluateRefusals g vs lent)) _ (λ n. rw (n, evaluateEffect)) r e in rw (s .1, evaluateEffect)

@@ -103,7 +103,8 @@ module _ {A : Type 0} (f : A → Bool) (d : A) where
   all-of (x ∷ xs) h = and-both (f x) (all f xs) (h 0 (zero-lt-suc (length xs))) (all-of xs (λ j l. h (suc j) (omega arith)))
 
 -- two functions that agree on the elements give the same list
-pub map-same : {A B : Type 0} (f h : A → B) (d : A) (xs : List A) → ((j : ℕ) → j < length xs → f (getD xs j d) ≡ h (getD xs j d)) → map f xs ≡ map h xs
+pub map-same : {A B : Type 0} (f h : A → B) (d : A) (xs : List A) → ((j : ℕ) → j < length xs → f (getD xs j d) ≡ h (getD xs j d))
+    → map f xs ≡ map h xs
 map-same f h d [] e = refl
 map-same f h d (x ∷ xs) e = ap₂ _∷_ (e 0 (zero-lt-suc (length xs))) (map-same f h d xs (λ j l. e (suc j) (omega arith)))
 

@@ -54,7 +54,8 @@ unfolding markEach
 each-keeps [] ms v m = m
 each-keeps (l ∷ ls) ms v m = each-keeps ls (set ms (varOf l) true) v (set-keeps ms (varOf l) v m)
 
-pub each-marks : (ls : List ℕ) (ms : List Bool) (j : ℕ) → j < length ls → varOf (getD ls j 0) < length ms → Marked (markEach ls ms) (varOf (getD ls j 0))
+pub each-marks : (ls : List ℕ) (ms : List Bool) (j : ℕ) → j < length ls → varOf (getD ls j 0) < length ms
+    → Marked (markEach ls ms) (varOf (getD ls j 0))
 unfolding markEach
 each-marks [] ms j h b = absurd (not-suc-le-zero h)
 each-marks (l ∷ ls) ms zero h b = each-keeps ls (set ms (varOf l) true) (varOf l) (set-marks ms (varOf l) b)

@@ -91,7 +91,8 @@ module _ {A : Type 0} (f : A → Bool) where
   keep-from [] m = absurd (none-in m)
   keep-from {x} (y ∷ xs) m = go (f y) refl m (keep-from xs)
     where
-      go : (b : Bool) → f y ≡ b → x ∈ (elim b [ true ↦ y ∷ keep f xs | false ↦ keep f xs ]) → (x ∈ keep f xs → (x ∈ xs) × (f x ≡ true)) → (x ∈ (y ∷ xs)) × (f x ≡ true)
+      go : (b : Bool) → f y ≡ b → x ∈ (elim b [ true ↦ y ∷ keep f xs | false ↦ keep f xs ]) → (x ∈ keep f xs → (x ∈ xs) × (f x ≡ true))
+          → (x ∈ (y ∷ xs)) × (f x ≡ true)
       go true q (here e) r = (here e, ap f e ∙ q)
       go true q (later j) r = let s = r j in (later (s .0), s .1)
       go false q j r = let s = r j in (later (s .0), s .1)

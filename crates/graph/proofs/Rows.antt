@@ -53,7 +53,8 @@ module _ (n : ℕ) where
   silent-left (x ∷ xs) ys s = (s .0, silent-left xs ys (s .1))
 
 module _ {given : Refusal → Type 0} where
-  settle : (rows : List Row) (m : ℕ) → ascends m rows ≡ true → Sound given rows → ((q : Refusal) → given q → ¬ Silent (numberOf q) rows) → Settles given (firstRefusal rows)
+  settle : (rows : List Row) (m : ℕ) → ascends m rows ≡ true → Sound given rows → ((q : Refusal) → given q → ¬ Silent (numberOf q) rows)
+      → Settles given (firstRefusal rows)
   unfolding firstRefusal ascends
   settle [] m e s c = clears (λ q h. c q h tt)
   settle (row ∷ rows) m e s c = go (row .holds) refl (settle rows (numberOf (row .refusal)) later)
@@ -61,7 +62,9 @@ module _ {given : Refusal → Type 0} where
       later : ascends (numberOf (row .refusal)) rows ≡ true
       later = and-right (ltb m (numberOf (row .refusal))) _ e
 
-      go : (t : Bool) → row .holds ≡ t → (Sound given rows → ((q : Refusal) → given q → ¬ Silent (numberOf q) rows) → Settles given (firstRefusal rows)) → Settles given (cond t (some (row .refusal)) (firstRefusal rows))
+      go : (t : Bool) → row .holds ≡ t
+          → (Sound given rows → ((q : Refusal) → given q → ¬ Silent (numberOf q) rows) → Settles given (firstRefusal rows))
+          → Settles given (cond t (some (row .refusal)) (firstRefusal rows))
       go true h below = gives (record {
         holds = s .0 h;
         none-lower = λ q l k. c q k (λ u. absurd (omega (arith, leb-true (numberOf (row .refusal)) (numberOf q) u)), silent-above (numberOf q) (numberOf (row .refusal)) rows (omega arith) later);
@@ -84,7 +87,8 @@ unfolding firstRefusal
 none-silent n [] e = tt
 none-silent n (row ∷ rows) e = go (row .holds) refl e (none-silent n rows)
   where
-    go : (t : Bool) → row .holds ≡ t → cond t (some (row .refusal)) (firstRefusal rows) ≡ none → (firstRefusal rows ≡ none → Silent n rows) → Silent n (row ∷ rows)
+    go : (t : Bool) → row .holds ≡ t → cond t (some (row .refusal)) (firstRefusal rows) ≡ none → (firstRefusal rows ≡ none → Silent n rows)
+        → Silent n (row ∷ rows)
     go true h k below = absurd (Option·some-ne-none (row .refusal) k)
     go false h k below = (λ _. h, below k)
 
@@ -117,7 +121,8 @@ module _ {given whole : Refusal → Type 0} (wider : (q : Refusal) → given q �
   sound-join (x ∷ xs) ys s t = (λ e. wider (x .refusal) (s .0 e), λ e. sound-join xs ys (s .1 e) (λ h. t (rw e h)))
 
   -- what is given for the whole is given for the first rows, or the further rows do not miss it
-  pub decides-join : {xs : List Row} (ys : List Row) → Decides given xs → ascends 0 (xs ++ ys) ≡ true → (firstRefusal xs ≡ none → Sound whole ys) → ((q : Refusal) → whole q → given q ⊎ (¬ Silent (numberOf q) (xs ++ ys))) → Decides whole (xs ++ ys)
+  pub decides-join : {xs : List Row} (ys : List Row) → Decides given xs → ascends 0 (xs ++ ys) ≡ true → (firstRefusal xs ≡ none → Sound whole ys)
+      → ((q : Refusal) → whole q → given q ⊎ (¬ Silent (numberOf q) (xs ++ ys))) → Decides whole (xs ++ ys)
   decides-join {xs} ys d a s c = record {
     ascending = a;
     sound = sound-join xs ys (d .sound) s;

@@ -118,7 +118,8 @@ module _ {given : Refusal → Type 0} where
   settles-none (clears n) = (λ e. n, λ m. refl)
 
   -- a number that shows what settles is the answer's
-  pub settles-answers : {o : Option Refusal} → Settles given o → (n : ℕ) → ((q : Refusal) → o ≡ some q → n ≡ numberOf q) → (o ≡ none → n ≡ 0) → Answers given n
+  pub settles-answers : {o : Option Refusal} → Settles given o → (n : ℕ) → ((q : Refusal) → o ≡ some q → n ≡ numberOf q) → (o ≡ none → n ≡ 0)
+      → Answers given n
   settles-answers (gives {r = q} l) n h k = record {
     refuses = λ r. (λ e. subst (Lowest given) (numberOf-injective q r (sym (h q refl) ∙ e)) l, λ m. h q refl ∙ ap numberOf (lowest-one l m));
     accepts = (λ e. absurd (numberOf-not-zero q (sym e ∙ h q refl)), λ c. absurd (c q (l .holds)));
@@ -139,7 +140,9 @@ none-shown none n h e = refl
 none-shown (some q) n h e = absurd (numberOf-not-zero q (sym e ∙ h q refl))
 
 -- a part that has all that is lower settles first, and the rest where nothing of the part is given
-pub settles-then : {part whole : Refusal → Type 0} {o p : Option Refusal} → ((q : Refusal) → part q → whole q) → ((q r : Refusal) → whole q → part r → numberOf q < numberOf r → part q) → Settles part o → (((q : Refusal) → ¬ part q) → Settles whole p) → Settles whole (orElse o p)
+pub settles-then : {part whole : Refusal → Type 0} {o p : Option Refusal} → ((q : Refusal) → part q → whole q)
+    → ((q r : Refusal) → whole q → part r → numberOf q < numberOf r → part q) → Settles part o → (((q : Refusal) → ¬ part q) → Settles whole p)
+    → Settles whole (orElse o p)
 unfolding orElse
 settles-then wider lower (gives {r} l) s =
     gives (record { holds = wider r (l .holds); none-lower = λ q h w. l .none-lower q h (lower q r w (l .holds) h) })

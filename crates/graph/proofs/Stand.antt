@@ -71,11 +71,13 @@ module _ (net net′ : Net) (stand : ℕ → ℕ) where
     pub literal-carries : (l : ℕ) → Carries (varOf l) → literalUnder net′ a (moved l) ≡ literalUnder net a l
     literal-carries l e = flip-value net′ a (stand (varOf l)) l ∙ ap (turned bools (isOdd l)) e
 
-    pub copy-carries : (v u : ℕ) → free net < v → first net v < 2 * v → second net v < 2 * v → free net′ < u → first net′ u < 2 * u → second net′ u < 2 * u
+    pub copy-carries : (v u : ℕ) → free net < v → first net v < 2 * v → second net v < 2 * v → free net′ < u → first net′ u < 2 * u
+        → second net′ u < 2 * u
         → Copies v u → Carries (varOf (first net v)) → Carries (varOf (second net v)) → valueUnder net′ a u ≡ valueUnder net a v
     copy-carries v u l f s l′ f′ s′ c cf cs = value-gate net′ a u l′ f′ s′ ∙ both c ∙ sym (value-gate net a v l f s)
       where
-        both : Copies v u → literalUnder net′ a (first net′ u) && literalUnder net′ a (second net′ u) ≡ literalUnder net a (first net v) && literalUnder net a (second net v)
+        both : Copies v u
+            → literalUnder net′ a (first net′ u) && literalUnder net′ a (second net′ u) ≡ literalUnder net a (first net v) && literalUnder net a (second net v)
         both (in-order p q) = ap₂ _&&_ (ap (literalUnder net′ a) p ∙ literal-carries (first net v) cf) (ap (literalUnder net′ a) q ∙ literal-carries (second net v) cs)
         both (exchanged p q) =
             ap₂ _&&_ (ap (literalUnder net′ a) p ∙ literal-carries (second net v) cs) (ap (literalUnder net′ a) q ∙ literal-carries (first net v) cf)

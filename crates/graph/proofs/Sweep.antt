@@ -93,7 +93,8 @@ module _ {A : Type 0} (K : Kind A) (net net′ : Net) where
   fewer h s =
       record { same-free = s .same-free; same-first = λ v l k. s .same-first v l (omega arith); same-second = λ v l k. s .same-second v l (omega arith) }
 
-  pub values-same : (own own′ : ℕ → Option A) (n : ℕ) → SameUpTo net net′ n → ((v : ℕ) → v ≤ n → own v ≡ own′ v) → values K own net n ≡ values K own′ net′ n
+  pub values-same : (own own′ : ℕ → Option A) (n : ℕ) → SameUpTo net net′ n → ((v : ℕ) → v ≤ n → own v ≡ own′ v)
+      → values K own net n ≡ values K own′ net′ n
   unfolding values
   values-same own own′ zero s h = refl
   values-same own own′ (suc n) s h =
@@ -136,7 +137,8 @@ module _ {A B : Type 0} (h : A → B) (K : Kind A) (L : Kind B) (r : Respects h 
       ∙ ap₂ (cond (leb v (free net))) (r .keeps-no)
       (r .keeps-conj _ _ ∙ ap₂ (L .conj) (litValue-map vs (first net v)) (litValue-map vs (second net v)))
 
-  pub values-map : (own : ℕ → Option A) (own′ : ℕ → Option B) → ((v : ℕ) → Option·map h (own v) ≡ own′ v) → (net : Net) (n : ℕ) → map h (values K own net n) ≡ values L own′ net n
+  pub values-map : (own : ℕ → Option A) (own′ : ℕ → Option B) → ((v : ℕ) → Option·map h (own v) ≡ own′ v) → (net : Net) (n : ℕ)
+      → map h (values K own net n) ≡ values L own′ net n
   unfolding values
   values-map own own′ o net zero = ap (λ (x : B). x ∷ []) (r .keeps-no)
   values-map own own′ o net (suc n) =

@@ -102,7 +102,8 @@ module _ (g : Graph) where
         (after _ (first-marked (g .net) v ms n (omega arith)), after _ (second-marked (g .net) v ms n (omega arith))))
         (at-most-or-above v (free (g .net) + k))
 
-    pub fanins-are-marked : (v : ℕ) → IsGate (g .net) v → Marked (marks g) v → Marked (marks g) (varOf (first (g .net) v)) × Marked (marks g) (varOf (second (g .net) v))
+    pub fanins-are-marked : (v : ℕ) → IsGate (g .net) v → Marked (marks g) v
+        → Marked (marks g) (varOf (first (g .net) v)) × Marked (marks g) (varOf (second (g .net) v))
     unfolding marks
     fanins-are-marked v i m =
         down-closed (size (g .net)) _ (le-refl _) (omega (arith, each-length (sinks g) (replicate (suc (last (g .net))) false), length-replicate (suc (last (g .net))) false)) v

@@ -39,6 +39,7 @@ module _ {A : Type 0} where
   each-keep P f [] h = each-none _
   each-keep P f (y ∷ ys) h = go (f y) refl (each-keep P f ys (λ x m. h x (later m)))
     where
-      go : (t : Bool) → f y ≡ t → Each (λ x. P x × (f x ≡ true)) (keep f ys) → Each (λ x. P x × (f x ≡ true)) (elim t [ true ↦ y ∷ keep f ys | false ↦ keep f ys ])
+      go : (t : Bool) → f y ≡ t → Each (λ x. P x × (f x ≡ true)) (keep f ys)
+          → Each (λ x. P x × (f x ≡ true)) (elim t [ true ↦ y ∷ keep f ys | false ↦ keep f ys ])
       go true e below = each-more _ y (keep f ys) (h y (here refl), e) below
       go false e below = below

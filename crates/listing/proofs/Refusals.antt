@@ -59,7 +59,8 @@ module _ (g : Graph) (root : ℕ) (w : Leaves) (lent : List Candidate) where
   unfolding listEffect listedOutcome
   by-refusal q e = rw (e, listEffect)
 
-  by-no-room : firstRefusal (windowRefusals g root w) ≡ none → tooShort ≡ true → outcome ≡ record { number = numberOf NoRoom; values = length (listed g root w) ∷ [] }
+  by-no-room : firstRefusal (windowRefusals g root w) ≡ none → tooShort ≡ true
+      → outcome ≡ record { number = numberOf NoRoom; values = length (listed g root w) ∷ [] }
   unfolding listEffect listedOutcome withList
   by-no-room e h = rw (e, listEffect, h, withList)
 
@@ -84,13 +85,15 @@ module _ (g : Graph) (root : ℕ) (w : Leaves) (lent : List Candidate) where
   unfolding numberOf
   no-room-counts n = go (firstRefusal (windowRefusals g root w)) refl tooShort refl
     where
-      go : (o : Option Refusal) → firstRefusal (windowRefusals g root w) ≡ o → (t : Bool) → tooShort ≡ t → values outcome ≡ length (listed g root w) ∷ []
+      go : (o : Option Refusal) → firstRefusal (windowRefusals g root w) ≡ o → (t : Bool) → tooShort ≡ t
+          → values outcome ≡ length (listed g root w) ∷ []
       go (some q) e t h = absurd (omega (arith, n, ap number (by-refusal q e), window-at-most g root w (first-lowest (window-decides g root w) q .0 e .holds)))
       go none e true h = ap values (by-no-room e h)
       go none e false h = absurd (omega (arith, n, ap number (by-records e h)))
 
   -- a refusal leaves the lent records as they were
-  pub list-leaves : (r : Refusal) → (listedOutcome ((listEffect g root w lent) .answer)) .number ≡ numberOf r → (listEffect g root w lent) .lent ≡ lent
+  pub list-leaves : (r : Refusal) → (listedOutcome ((listEffect g root w lent) .answer)) .number ≡ numberOf r
+      → (listEffect g root w lent) .lent ≡ lent
   unfolding listEffect withList
   list-leaves r n = go (firstRefusal (windowRefusals g root w)) refl tooShort refl
     where

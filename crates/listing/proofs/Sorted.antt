@@ -26,7 +26,8 @@ module _ {A : Type 0} (R : A → A → Type 0) where
       first (each-join (R x) xs ys l (h x (here refl))) (sorted-join ys s t (λ z m. h z (later m)))
 
   -- pieces that are sorted, each in the relation to the later ones
-  pub sorted-gather : (f : ℕ → List A) (n : ℕ) → ((k : ℕ) → Sorted R (f k)) → ((i j : ℕ) → i < j → Each (λ x. Each (R x) (f j)) (f i)) → Sorted R (gather f n)
+  pub sorted-gather : (f : ℕ → List A) (n : ℕ) → ((k : ℕ) → Sorted R (f k)) → ((i j : ℕ) → i < j → Each (λ x. Each (R x) (f j)) (f i))
+      → Sorted R (gather f n)
   unfolding gather
   sorted-gather f zero s h = nothing
   sorted-gather f (suc n) s h =

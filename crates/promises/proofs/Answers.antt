@@ -30,7 +30,8 @@ use Rattle.promises.specs.Promises.{Settled}
 pub read-settled : (t : List ℕ) (b : Buffers) → Settled (ReadGiven t b) ((readOutcome ((readEffect t b) .answer)) .number) b ((readEffect t b) .lent)
 read-settled t b = record { answers = read-answers t b; writes-nothing = read-leaves t b }
 
-pub write-settled : (g : Graph) (lent : List ℕ) → Settled (WriteGiven g lent) ((writtenOutcome ((writeEffect g lent) .answer)) .number) lent ((writeEffect g lent) .lent)
+pub write-settled : (g : Graph) (lent : List ℕ)
+    → Settled (WriteGiven g lent) ((writtenOutcome ((writeEffect g lent) .answer)) .number) lent ((writeEffect g lent) .lent)
 write-settled g lent = record { answers = write-answers g lent; writes-nothing = write-leaves g lent }
 
 pub evaluate-settled : (g : Graph) (vs lent : List ℕ)
@@ -58,5 +59,6 @@ table-settled = table-answers
 
 -- ---- ORDER LOST is never given
 
-pub order-is-never-lost : (g : Graph) (root : ℕ) (w : Leaves) (p : Proposal) (b : Buffers) → ¬ ((appliedOutcome ((applyEffect g root w p b) .answer)) .number ≡ numberOf OrderLost)
+pub order-is-never-lost : (g : Graph) (root : ℕ) (w : Leaves) (p : Proposal) (b : Buffers)
+    → ¬ ((appliedOutcome ((applyEffect g root w p b) .answer)) .number ≡ numberOf OrderLost)
 order-is-never-lost = order-lost-never-given

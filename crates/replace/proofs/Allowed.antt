@@ -88,7 +88,8 @@ module _ (p : Proposal) where
   unfolding proposedValue
   value-of-and e vs = rw e
 
-table-of-proposal : (net : Net) (root : ℕ) (w : Leaves) (p : Proposal) → proposedTable net root w p ≡ pack patterns (λ i. proposedValue bools (localUpTo net w (bit i) root) p)
+table-of-proposal : (net : Net) (root : ℕ) (w : Leaves) (p : Proposal)
+    → proposedTable net root w p ≡ pack patterns (λ i. proposedValue bools (localUpTo net w (bit i) root) p)
 unfolding proposedTable
 table-of-proposal net root w p = refl
 

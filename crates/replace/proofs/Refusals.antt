@@ -39,7 +39,8 @@ use Rattle.replace.specs.Calls.{
 use Rattle.replace.proofs.Allowed.{allowed-iff}
 use Rattle.replace.proofs.Rewire.{finished-well-formed}
 
-equal-iff : (g : Graph) (root : ℕ) (w : Leaves) (p : Proposal) → (equalTables g root w p ≡ true) ↔ (proposedTable (g .net) root w p ≡ table (g .net) w root)
+equal-iff : (g : Graph) (root : ℕ) (w : Leaves) (p : Proposal)
+    → (equalTables g root w p ≡ true) ↔ (proposedTable (g .net) root w p ≡ table (g .net) w root)
 unfolding equalTables sameTable
 equal-iff g root w p = eqb-iff _ _
 
@@ -87,7 +88,8 @@ module _ (g : Graph) (root : ℕ) (w : Leaves) (p : Proposal) where
     apply-answers = settles-answers (first-settles apply-decides) _ (λ q e. rw (e, applyEffect)) (λ e. rw (e, applyEffect))
 
     -- a refusal leaves the lent lists as they were
-    pub apply-leaves : (r : Refusal) → (appliedOutcome ((applyEffect g root w p b) .answer)) .number ≡ numberOf r → (applyEffect g root w p b) .lent ≡ b
+    pub apply-leaves : (r : Refusal) → (appliedOutcome ((applyEffect g root w p b) .answer)) .number ≡ numberOf r
+        → (applyEffect g root w p b) .lent ≡ b
     unfolding applyEffect appliedOutcome
     apply-leaves r e = let s = shown (firstRefusal (applyRefusals g root w p b)) _ (λ n. rw (n, applyEffect)) r e in rw (s .1, applyEffect)
 

@@ -111,7 +111,8 @@ module _ (g : Graph) (root : ℕ) (w : Leaves) (p : Proposal) (fits : Fits g roo
         ∙ ap₂ (λ (x y : ℕ). literalUnder (g′ .net) a x && literalUnder (g′ .net) a y) (h .0) (h .1)
         ∙ larger-first (literalUnder (g′ .net) a) (p .first .0) (p .second .0)
 
-    root-literal : p .kind ≡ 1 → p .turned ≤ 1 → literalUnder (g′ .net) a (standIn root p) ≡ turned bools (isOdd (p .turned)) (valueUnder (g′ .net) a root)
+    root-literal : p .kind ≡ 1 → p .turned ≤ 1
+        → literalUnder (g′ .net) a (standIn root p) ≡ turned bools (isOdd (p .turned)) (valueUnder (g′ .net) a root)
     root-literal k t =
         let sign : (2 * root + p .turned) % 2 ≡ p .turned % 2 = omega arith in
         let var : varOf (2 * root + p .turned) ≡ root = omega arith in

@@ -71,7 +71,8 @@ module _ (net : Net) (root : ℕ) (p : Proposal) where
         getD-gather 2 (λ k. rewiredGate net root p (suc (free net + k))) (λ k. two (suc (free net + k))) (size net) (v - suc (free net)) j 0 (omega arith) h
         ∙ ap (λ (u : ℕ). getD (rewiredGate net root p u) j 0) e
 
-    words : (a b : ℕ) → rewiredGate net root p v ≡ largerFirst a b → (first (rewiredNet net root p) v ≡ max a b) × (second (rewiredNet net root p) v ≡ min a b)
+    words : (a b : ℕ) → rewiredGate net root p v ≡ largerFirst a b
+        → (first (rewiredNet net root p) v ≡ max a b) × (second (rewiredNet net root p) v ≡ min a b)
     unfolding first second rewiredNet
     words a b e =
         let h = larger-first a b in (

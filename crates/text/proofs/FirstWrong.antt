@@ -40,15 +40,18 @@ module _ (need : Needed) (needs : List Needed) (t : List ℕ) where
   unfolding readLines
   at-misshapen e = rw (e, readLines)
 
-  at-broken : (ns rest : List ℕ) → lineOf (need .numbers) t ≡ some (front ns rest) → need .rule ns ≡ false → readLines (need ∷ needs) t ≡ wrong BadLiteral
+  at-broken : (ns rest : List ℕ) → lineOf (need .numbers) t ≡ some (front ns rest) → need .rule ns ≡ false
+      → readLines (need ∷ needs) t ≡ wrong BadLiteral
   unfolding readLines
   at-broken ns rest e f = rw (e, f, readLines)
 
-  at-right : (ns rest : List ℕ) → lineOf (need .numbers) t ≡ some (front ns rest) → need .rule ns ≡ true → readLines (need ∷ needs) t ≡ withLine ns (readLines needs rest)
+  at-right : (ns rest : List ℕ) → lineOf (need .numbers) t ≡ some (front ns rest) → need .rule ns ≡ true
+      → readLines (need ∷ needs) t ≡ withLine ns (readLines needs rest)
   unfolding readLines
   at-right ns rest e f = rw (e, f, readLines)
 
-  first-wrong-line : (r : Refusal) → ((rest : List ℕ) → readLines needs rest ≡ wrong r → FirstWrong needs rest r) → readLines (need ∷ needs) t ≡ wrong r → FirstWrong (need ∷ needs) t r
+  first-wrong-line : (r : Refusal) → ((rest : List ℕ) → readLines needs rest ≡ wrong r → FirstWrong needs rest r)
+      → readLines (need ∷ needs) t ≡ wrong r → FirstWrong (need ∷ needs) t r
   first-wrong-line r below e = go (lineOf (need .numbers) t) refl
     where
       by-rule : (ns rest : List ℕ) → lineOf (need .numbers) t ≡ some (front ns rest) → (u : Bool) → need .rule ns ≡ u → FirstWrong (need ∷ needs) t r

@@ -181,7 +181,8 @@ module _ (h : Header) (nss : List (List ℕ)) (f : Fits (linesNeeded h) nss) whe
   pub read-lawful : h .highest ≡ h .inputs + h .gates → Lawful (graphRead h nss)
   read-lawful q = rw read-is (lawful-read h nss (rows-of h nss f) q)
 
-  pub read-counts : h .highest ≡ h .inputs + h .gates → h .latches ≡ 0 → counts (graphRead h nss) ≡ h .highest ∷ h .inputs ∷ h .latches ∷ h .outputs ∷ h .gates ∷ []
+  pub read-counts : h .highest ≡ h .inputs + h .gates → h .latches ≡ 0
+      → counts (graphRead h nss) ≡ h .highest ∷ h .inputs ∷ h .latches ∷ h .outputs ∷ h .gates ∷ []
   read-counts q z = rw (read-is, size-read h nss (rows-of h nss f), outputs-count h nss (rows-of h nss f), q, z)
 
 -- ---- no number of these lines is above 2M + 1, and no line has more than three

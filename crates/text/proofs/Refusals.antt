@@ -189,7 +189,8 @@ module _ (t : List ℕ) (b : Buffers) (ns rest : List ℕ) (e : headerLine t ≡
       subst (Settles (ReadGiven t b)) (sym (go (firstRefusal rows) refl))
       (settles-then (λ q d. d .0) (λ q r d k l. (d, omega (arith, k .1))) (first-settles header-decides) body-settles)
     where
-      go : (o : Option Refusal) → firstRefusal rows ≡ o → refusalOf (withRoom (reading t) b) ≡ orElse (firstRefusal rows) (refusalOf (withRoom (readBody counts rest) b))
+      go : (o : Option Refusal) → firstRefusal rows ≡ o
+          → refusalOf (withRoom (reading t) b) ≡ orElse (firstRefusal rows) (refusalOf (withRoom (readBody counts rest) b))
       go none f = rw (reading-body f, f)
       go (some r) f = rw (reading-refuses r f, f)
 

@@ -26,7 +26,8 @@ line-short (x ∷ ns) h =
     rw (length-append (decimal x) (separator (length ns) ∷ line ns))
     (omega (arith, decimal-short 3 x (omega (arith, h 0)), line-short ns (λ i. h (suc i))))
 
-lines-short : (c : ℕ) (nss : List (List ℕ)) → ((j : ℕ) → j < length nss → length (line (getD nss j [])) ≤ c) → length (flatMap line nss) ≤ c * length nss
+lines-short : (c : ℕ) (nss : List (List ℕ)) → ((j : ℕ) → j < length nss → length (line (getD nss j [])) ≤ c)
+    → length (flatMap line nss) ≤ c * length nss
 unfolding flatMap
 lines-short c [] h = zero-le
 lines-short c (ns ∷ nss) h =

@@ -29,9 +29,12 @@ pub record Headed (t ns rest : List ℕ) : Type 0 where
 -- of the lines needed, the first that is not right is the refusal's; the rest of the text counts as the last line
 pub data FirstWrong : List Needed → List ℕ → Refusal → Type 0 where
   bad-rest : {t : List ℕ} → skipped t ≡ false → FirstWrong [] t BadLine
-  misshapen : {need : Needed} {needs : List Needed} {t : List ℕ} → ((ns rest : List ℕ) → ¬ Shaped (need .numbers) t ns rest) → FirstWrong (need ∷ needs) t BadLine
-  breaks : {need : Needed} {needs : List Needed} {t ns rest : List ℕ} → Shaped (need .numbers) t ns rest → need .rule ns ≡ false → FirstWrong (need ∷ needs) t BadLiteral
-  later : {need : Needed} {needs : List Needed} {t ns rest : List ℕ} {r : Refusal} → Shaped (need .numbers) t ns rest → need .rule ns ≡ true → FirstWrong needs rest r → FirstWrong (need ∷ needs) t r
+  misshapen : {need : Needed} {needs : List Needed} {t : List ℕ} → ((ns rest : List ℕ) → ¬ Shaped (need .numbers) t ns rest)
+      → FirstWrong (need ∷ needs) t BadLine
+  breaks : {need : Needed} {needs : List Needed} {t ns rest : List ℕ} → Shaped (need .numbers) t ns rest → need .rule ns ≡ false
+      → FirstWrong (need ∷ needs) t BadLiteral
+  later : {need : Needed} {needs : List Needed} {t ns rest : List ℕ} {r : Refusal} → Shaped (need .numbers) t ns rest → need .rule ns ≡ true
+      → FirstWrong needs rest r → FirstWrong (need ∷ needs) t r
 
 -- when reading is refused
 pub data ReadGiven (t : List ℕ) (b : Buffers) : Refusal → Type 0 where
@@ -41,7 +44,8 @@ pub data ReadGiven (t : List ℕ) (b : Buffers) : Refusal → Type 0 where
   many-gates : {ns rest : List ℕ} → Headed t ns rest → mostGates < (headerOf ns) .gates → ReadGiven t b TooLarge
   many-bytes : mostBytes < length t → ReadGiven t b TooLarge
   latches : {ns rest : List ℕ} → Headed t ns rest → ¬ ((headerOf ns) .latches ≡ 0) → ReadGiven t b Latches
-  bad-count : {ns rest : List ℕ} → Headed t ns rest → ¬ ((headerOf ns) .highest ≡ (headerOf ns) .inputs + (headerOf ns) .gates) → ReadGiven t b BadCount
+  bad-count : {ns rest : List ℕ} → Headed t ns rest → ¬ ((headerOf ns) .highest ≡ (headerOf ns) .inputs + (headerOf ns) .gates)
+      → ReadGiven t b BadCount
   wrong-line : {ns rest : List ℕ} {r : Refusal} → Headed t ns rest → FirstWrong (linesNeeded (headerOf ns)) rest r → ReadGiven t b r
   no-room : {g : Graph} → States t g → NoRoomFor g b → ReadGiven t b NoRoom
 

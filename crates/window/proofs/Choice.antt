@@ -47,7 +47,8 @@ module _ (limit : ℕ) (net : Net) (xs : List ℕ) where
   no-expandable e v c = elim (rw (sym expansions-are ∙ e) at (in-map (expand net xs) (expandable-in v c))) [ ]
 
   -- the place of an expandable leaf's expansion
-  expansion-at : (u : ℕ) → Expandable limit net xs u → (j : ℕ) × (j < length expandables) × (getD expandables j 0 ≡ u) × (getD (map (expand net xs) expandables) j [] ≡ expand net xs u)
+  expansion-at : (u : ℕ) → Expandable limit net xs u
+      → (j : ℕ) × (j < length expandables) × (getD expandables j 0 ≡ u) × (getD (map (expand net xs) expandables) j [] ≡ expand net xs u)
   expansion-at u c =
       let p = place-of 0 (expandable-in u c) in
       (p .0, p .1, p .2, map-at (expand net xs) 0 [] expandables (p .0) (p .1) ∙ ap (expand net xs) (p .2))

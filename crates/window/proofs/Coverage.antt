@@ -112,7 +112,8 @@ module _ (g : Graph) (law : Lawful g) (w : Leaves) where
   is-covered (gate-is {v} i a b) = by-gate v i (is-covered a) (is-covered b)
 
   -- from what holds below it
-  covers-next : (n : ℕ) → suc n ≤ last net → ((v : ℕ) → v ≤ n → covered net w v ≡ true → Covered net w v) → covered net w (suc n) ≡ true → Covered net w (suc n)
+  covers-next : (n : ℕ) → suc n ≤ last net → ((v : ℕ) → v ≤ n → covered net w v ≡ true → Covered net w v) → covered net w (suc n) ≡ true
+      → Covered net w (suc n)
   covers-next n l below c = covered-cases net w n c
       (λ j e. let s = leaf-found w (suc n) j e in subst (Covered net w) (s .1) (leaf-is j (s .0)))
       (λ e k a b.
@@ -169,5 +170,6 @@ module _ (net : Net) (w : Leaves) (a : ℕ → Bool) where
   unfolding valueAt values localAt
   agrees-zero c = refl
 
-  pub covered-value : (v : ℕ) → covered net w v ≡ true → valueAt bools (assigned net a) net v ≡ localAt net w (λ j. valueAt bools (assigned net a) net (getD (leafList w) j 0)) v
+  pub covered-value : (v : ℕ) → covered net w v ≡ true
+      → valueAt bools (assigned net a) net v ≡ localAt net w (λ j. valueAt bools (assigned net a) net (getD (leafList w) j 0)) v
   covered-value = strong Agrees agrees-zero agrees-next

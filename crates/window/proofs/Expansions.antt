@@ -61,7 +61,8 @@ module _ (net : Net) where
       subst (Covered net (leavesOf xs)) (s .2) (leaf-is (s .0) (s .1))
 
   -- leaves that are covered may give way to those that cover them
-  covered-through : (xs ys : List ℕ) {u : ℕ} → ((v : ℕ) → v ∈ xs → Covered net (leavesOf ys) v) → Covered net (leavesOf xs) u → Covered net (leavesOf ys) u
+  covered-through : (xs ys : List ℕ) {u : ℕ} → ((v : ℕ) → v ∈ xs → Covered net (leavesOf ys) v) → Covered net (leavesOf xs) u
+      → Covered net (leavesOf ys) u
   covered-through xs ys f zero-is = zero-is
   covered-through xs ys f (leaf-is j h) = f _ (subst (λ (zs : List ℕ). getD (leafList (leavesOf xs)) j 0 ∈ zs) (leaves-of-list xs) (at-place 0 (leafList (leavesOf xs)) j h))
   covered-through xs ys f (gate-is i p q) = gate-is i (covered-through xs ys f p) (covered-through xs ys f q)
@@ -84,7 +85,8 @@ module _ (g : Graph) (law : Lawful g) where
   open Graph g using (net)
 
   -- fanin variables are below the gate, so they keep below any bound on it
-  fanins-below : (v bound : ℕ) (xs : List ℕ) → IsGate net v → v ≤ bound → ((u : ℕ) → u ∈ xs → u < bound) → (u : ℕ) → u ∈ withFanins net v xs → u < bound
+  fanins-below : (v bound : ℕ) (xs : List ℕ) → IsGate net v → v ≤ bound → ((u : ℕ) → u ∈ xs → u < bound) → (u : ℕ) → u ∈ withFanins net v xs
+      → u < bound
   fanins-below v bound xs i h f u j = ⊎-elim
       (λ e. omega (arith, law .below v i))
       (λ s. ⊎-elim (λ e. omega (arith, law .below v i, law .ordered v i)) (λ k. f u k) s)

@@ -28,7 +28,8 @@ module _ {limit : ℕ} {net : Net} where
   follows-ends (takes c f) = follows-ends f
 
   -- what each step keeps, the rule keeps
-  follows-keeps : (P : List ℕ → Type 0) → ((xs ys : List ℕ) → P xs → Chosen limit net xs ys → P ys) → {xs zs : List ℕ} → Follows limit net xs zs → P xs → P zs
+  follows-keeps : (P : List ℕ → Type 0) → ((xs ys : List ℕ) → P xs → Chosen limit net xs ys → P ys) → {xs zs : List ℕ} → Follows limit net xs zs
+      → P xs → P zs
   follows-keeps P k (stops e) p = p
   follows-keeps P k (takes {xs} {ys} c f) p = follows-keeps P k f (k xs ys p c)
 
@@ -96,7 +97,8 @@ module _ (g : Graph) (law : Lawful g) (root : ℕ) (gate : IsGate (g .net) root)
   unfolding picked
   picked-list = leaves-of-list (ruleLeaves leafLimit net root)
 
-  pub picked-no-expansion : (v : ℕ) → isIn v (leafList (picked net root)) ≡ true → free net < v → leafLimit < length (expand net (leafList (picked net root)) v)
+  pub picked-no-expansion : (v : ℕ) → isIn v (leafList (picked net root)) ≡ true → free net < v
+      → leafLimit < length (expand net (leafList (picked net root)) v)
   picked-no-expansion v e h = ⊎-elim
       (λ l.
       absurd (no-expandable leafLimit net (leafList (picked net root)) (ap (expansions leafLimit net) picked-list ∙ rule-ends g law leafLimit root gate) v

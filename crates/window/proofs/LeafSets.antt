@@ -73,7 +73,8 @@ filled-zero n xs j h =
     ∙ replicate-at 0 (n - length xs) (j - length xs)
 
 -- at most six leaves that ascend from 0 and stay below the root are well set down under it
-pub leaves-of-well-set : (root : ℕ) (xs : List ℕ) → length xs ≤ leafLimit → ascendsFrom 0 xs ≡ true → ((v : ℕ) → v ∈ xs → v < root) → WellSet root (leavesOf xs)
+pub leaves-of-well-set : (root : ℕ) (xs : List ℕ) → length xs ≤ leafLimit → ascendsFrom 0 xs ≡ true → ((v : ℕ) → v ∈ xs → v < root)
+    → WellSet root (leavesOf xs)
 unfolding leavesOf
 leaves-of-well-set root xs few up below =
     record {

@@ -21,7 +21,8 @@ use Rattle.window.proofs.Tables.{tables-equal, local-stays}
 
 module _ {A : Type 0} (a a′ : ℕ → A) where
   -- a place in a list is within it, so only the values there count
-  place-same : (xs : List ℕ) (j v : ℕ) → ((k : ℕ) → k < j + length xs → a k ≡ a′ k) → Option·map a (placeFrom j xs v) ≡ Option·map a′ (placeFrom j xs v)
+  place-same : (xs : List ℕ) (j v : ℕ) → ((k : ℕ) → k < j + length xs → a k ≡ a′ k)
+      → Option·map a (placeFrom j xs v) ≡ Option·map a′ (placeFrom j xs v)
   unfolding placeFrom
   place-same [] j v h = refl
   place-same (x ∷ xs) j v h = pick (eqb x v) (h j (omega arith)) (place-same xs (suc j) v (λ k l. h k (omega arith)))
@@ -36,20 +37,23 @@ module _ {A : Type 0} (a a′ : ℕ → A) where
   own-same w c h v = place-same (leafList w) 0 v (λ k l. h k (omega (arith, length-take (w .count) (w .places))))
 
 -- an assignment of the leaves gives what its pattern gives
-pub locals-by-pattern : (net : Net) (w : Leaves) → w .count ≤ leafLimit → (a : ℕ → Bool) (n : ℕ) → localUpTo net w a n ≡ localUpTo net w (bit (pack leafLimit a)) n
+pub locals-by-pattern : (net : Net) (w : Leaves) → w .count ≤ leafLimit → (a : ℕ → Bool) (n : ℕ)
+    → localUpTo net w a n ≡ localUpTo net w (bit (pack leafLimit a)) n
 unfolding localUpTo
 locals-by-pattern net w c a n =
     values-same bools net net (leafOwn w a) (leafOwn w (bit (pack leafLimit a))) n
     (record { same-free = refl; same-first = λ u l h. refl; same-second = λ u l h. refl })
     (λ u _. own-same a (bit (pack leafLimit a)) w c (λ k l. sym (bit-pack leafLimit a k l)) u)
 
-pub local-by-pattern : (net : Net) (w : Leaves) → w .count ≤ leafLimit → (a : ℕ → Bool) (v : ℕ) → localAt net w a v ≡ localAt net w (bit (pack leafLimit a)) v
+pub local-by-pattern : (net : Net) (w : Leaves) → w .count ≤ leafLimit → (a : ℕ → Bool) (v : ℕ)
+    → localAt net w a v ≡ localAt net w (bit (pack leafLimit a)) v
 local-by-pattern net w c a v =
     sym (local-stays net w a v v (le-refl v))
     ∙ ap (λ (xs : List Bool). getD xs v false) (locals-by-pattern net w c a v)
     ∙ local-stays net w (bit (pack leafLimit a)) v v (le-refl v)
 
-pub equal-tables-equal-functions : (net net′ : Net) (w : Leaves) (v v′ : ℕ) → w .count ≤ leafLimit → table net w v ≡ table net′ w v′ → (a : ℕ → Bool) → localAt net w a v ≡ localAt net′ w a v′
+pub equal-tables-equal-functions : (net net′ : Net) (w : Leaves) (v v′ : ℕ) → w .count ≤ leafLimit → table net w v ≡ table net′ w v′ → (a : ℕ → Bool)
+    → localAt net w a v ≡ localAt net′ w a v′
 equal-tables-equal-functions net net′ w v v′ c e a =
     local-by-pattern net w c a v
     ∙ tables-equal net net′ w w v v′ .0 e (pack leafLimit a) (pack-lt leafLimit a)

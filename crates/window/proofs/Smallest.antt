@@ -49,7 +49,8 @@ module _ (best xs : List ℕ) (xss : List (List ℕ)) (ys : List ℕ) where
       shorter (suc zero) l = omega (arith, s .none-shorter 0 (omega arith))
       shorter (suc (suc j)) l = s .none-shorter (suc j) (omega arith)
 
-      longer : (k p : ℕ) → ((i : ℕ) → p < suc (suc i) → k < suc i) → ((j : ℕ) → k < j → j < length (best ∷ xss) → length ys < length (getD (best ∷ xss) j []))
+      longer : (k p : ℕ) → ((i : ℕ) → p < suc (suc i) → k < suc i)
+          → ((j : ℕ) → k < j → j < length (best ∷ xss) → length ys < length (getD (best ∷ xss) j []))
           → (j : ℕ) → p < j → j < length (best ∷ xs ∷ xss) → length ys < length (getD (best ∷ xs ∷ xss) j [])
       longer k p c f zero q l = absurd (omega arith)
       longer k p c f (suc zero) q l = omega (arith, s .none-shorter 0 (omega arith))
@@ -66,7 +67,8 @@ unfolding smallestFrom
 smallest-from best [] = only best
 smallest-from best (xs ∷ xss) = go (leb (length xs) (length best)) refl (λ zs. smallest-from zs xss)
   where
-    go : (b : Bool) → leb (length xs) (length best) ≡ b → ((zs : List ℕ) → Smallest (zs ∷ xss) (smallestFrom zs xss)) → Smallest (best ∷ xs ∷ xss) (smallestFrom (cond b xs best) xss)
+    go : (b : Bool) → leb (length xs) (length best) ≡ b → ((zs : List ℕ) → Smallest (zs ∷ xss) (smallestFrom zs xss))
+        → Smallest (best ∷ xs ∷ xss) (smallestFrom (cond b xs best) xss)
     go true e r = given-way best xs xss (smallestFrom xs xss) (leb-true _ _ e) (r xs)
     go false e r = passed-over best xs xss (smallestFrom best xss) (leb-false _ _ e) (r best)
 
