@@ -1,7 +1,6 @@
 -- The candidates of a root: all replacements that keep their kind's rule are among them, and they stand in order.
 -- Assumes nothing.
 use mathlib.Core.Path.{_≡_, refl}
-use mathlib.Core.Bool.{true}
 use mathlib.Core.List.{List, [], _∷_}
 use Prim.Native.Nat.{ℕ, _*_, _<_}
 use native.Mathlib.Nat.{le-refl}
@@ -11,8 +10,7 @@ use Rattle.graph.proofs.Members.{in-gather, in-left, in-right, in-same}
 use Rattle.graph.specs.Graph.{Net, Graph}
 use Rattle.window.specs.declared.Leaves.{Leaves}
 use Rattle.replace.specs.declared.Proposal.{Proposal}
-use Rattle.replace.specs.Proposal.{literal, andGate, Divides, allowed, Allowed, a-literal, an-and}
-use Rattle.replace.proofs.Allowed.{allowed-facts}
+use Rattle.replace.specs.Proposal.{literal, andGate, Allowed, a-literal, an-and}
 use Rattle.listing.specs.Listing.{candidates, candidateOf, Before, by-kind, by-first, by-second, by-turned}
 use Rattle.listing.proofs.Each.{Each, each-one, each-gather}
 use Rattle.listing.proofs.Sorted.{Sorted, sorted-one, sorted-join, sorted-gather}
@@ -47,17 +45,14 @@ module _ (root : ℕ) where
 same-proposal : (p q : Proposal) → p .kind ≡ q .kind → p .first .0 ≡ q .first .0 → p .second .0 ≡ q .second .0 → p .turned ≡ q .turned → p ≡ q
 same-proposal p q e f s t = λ i. record { kind = e i; first = record { 0 = f i }; second = record { 0 = s i }; turned = t i }
 
-pub allowed-in : (net : Net) (root : ℕ) (w : Leaves) (p : Proposal) → allowed net root w p ≡ true → p ∈ candidates root
-allowed-in net root w p e = go (allowed-facts net root w p e)
-  where
-    below : (l : ℕ) → Divides net root w l → l < 2 * root
-    below l d = let h = d .below-root in omega arith
-
-    go : Allowed net root w p → p ∈ candidates root
-    go (a-literal k d s t) = in-same (same-proposal p (literal (p .first .0)) k refl s t) (literal-in root (p .first .0) (below (p .first .0) d))
-    go (an-and k d d′ z l t) =
-        in-same (same-proposal p (andGate (p .first .0) (p .second .0) (p .turned)) k refl refl refl)
-        (and-in root (p .first .0) (p .second .0) (p .turned) (below (p .first .0) d) (below (p .second .0) d′) (omega arith))
+pub allowed-in : (net : Net) (root : ℕ) (w : Leaves) (p : Proposal) → Allowed net root w p → p ∈ candidates root
+allowed-in net root w p (a-literal k d s t) =
+    in-same (same-proposal p (literal (p .first .0)) k refl s t) (literal-in root (p .first .0) (let h = d .below-root in omega arith))
+allowed-in net root w p (an-and k d d′ z l t) =
+    let h = d .below-root in
+    let h′ = d′ .below-root in
+    in-same (same-proposal p (andGate (p .first .0) (p .second .0) (p .turned)) k refl refl refl)
+    (and-in root (p .first .0) (p .second .0) (p .turned) (omega arith) (omega arith) (omega arith))
 
 -- ---- their order
 

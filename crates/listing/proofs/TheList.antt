@@ -17,6 +17,7 @@ use Rattle.replace.specs.declared.Proposal.{Proposal}
 use Rattle.replace.specs.Proposal.{allowed}
 use Rattle.replace.specs.Rewire.{gain, atLeastOne}
 use Rattle.replace.specs.Calls.{equalTables}
+use Rattle.replace.proofs.Allowed.{allowed-iff}
 use Rattle.listing.specs.declared.Candidate.{Candidate}
 use Rattle.listing.specs.Listing.{candidates, good, candidateOf, listed, proposalOf, GoodRecord, Before, IsTheList}
 use Rattle.listing.proofs.Each.{Each}
@@ -42,7 +43,7 @@ module _ (g : Graph) (root : ℕ) (w : Leaves) where
       let tests = and-right (allowed (g .net) root w p) _ e in
       let positive = gain-positive (gain g root p) (and-right (equalTables g root w p) _ tests) in
       record {
-        keeps-rule = and-left (allowed (g .net) root w p) _ e;
+        keeps-rule = allowed-iff (g .net) root w p .0 (and-left (allowed (g .net) root w p) _ e);
         equals = eqb-true _ _ (and-left (equalTables g root w p) _ tests);
         gain-is = positive .0;
         at-least-one = positive .1;
@@ -51,7 +52,7 @@ module _ (g : Graph) (root : ℕ) (w : Leaves) where
   record-good : (x : Candidate) → GoodRecord g root w x → good g root w (proposalOf x) ≡ true
   unfolding good equalTables sameTable
   record-good x r =
-      and-both _ _ (r .keeps-rule) (and-both _ _ (eq-eqb _ _ (r .equals)) (positive-gain _ (x .gain) (r .gain-is) (r .at-least-one)))
+      and-both _ _ (allowed-iff (g .net) root w (proposalOf x) .1 (r .keeps-rule)) (and-both _ _ (eq-eqb _ _ (r .equals)) (positive-gain _ (x .gain) (r .gain-is) (r .at-least-one)))
 
   record-is : (x : Candidate) → GoodRecord g root w x → x ≡ candidateOf g root (proposalOf x)
   unfolding candidateOf

@@ -2,7 +2,7 @@
 -- Assumes nothing.
 use Prim.Native.Nat.{ℕ, _*_, _≤_, _<_}
 use mathlib.Core.Path.{_≡_}
-use mathlib.Core.Bool.{Bool, true, _&&_}
+use mathlib.Core.Bool.{Bool, _&&_}
 use mathlib.Core.List.{List, [], _∷_, _++_, map}
 use mathlib.Core.Logic.{_↔_}
 use lib.IntN.{pos, natAbs}
@@ -11,7 +11,7 @@ use Rattle.graph.specs.Graph.{Graph}
 use Rattle.window.specs.declared.Leaves.{Leaves}
 use Rattle.replace.specs.declared.Proposal.{Proposal}
 use Rattle.window.specs.Table.{table}
-use Rattle.replace.specs.Proposal.{literal, andGate, allowed, proposedTable}
+use Rattle.replace.specs.Proposal.{literal, andGate, allowed, Allowed, proposedTable}
 use Rattle.replace.specs.Rewire.{gain, atLeastOne}
 use Rattle.replace.specs.Calls.{equalTables}
 use Rattle.listing.specs.declared.Candidate.{Candidate}
@@ -52,7 +52,7 @@ fields (x ∷ xs) = x .kind ∷ x .first ∷ x .second ∷ x .turned ∷ x .gain
 
 -- a good replacement with its gain
 pub record GoodRecord (g : Graph) (root : ℕ) (w : Leaves) (x : Candidate) : Type 0 where
-  pub keeps-rule : allowed (g .net) root w (proposalOf x) ≡ true
+  pub keeps-rule : Allowed (g .net) root w (proposalOf x)
   pub equals : proposedTable (g .net) root w (proposalOf x) ≡ table (g .net) w root
   pub gain-is : gain g root (proposalOf x) ≡ pos (x .gain)
   pub at-least-one : 1 ≤ x .gain

@@ -61,7 +61,7 @@ module _ (net : Net) (root : ℕ) (w : Leaves) where
         let at = every-at (andRules net root w p) e in
         an-and k (divides-facts (p .first .0) (at 0)) (divides-facts (p .second .0) (at 1)) (ltb-true _ _ (at 2)) (ltb-true _ _ (at 3)) (leb-true _ _ (at 4))
 
-    pub allowed-facts : allowed net root w p ≡ true → Allowed net root w p
+    allowed-facts : allowed net root w p ≡ true → Allowed net root w p
     allowed-facts e = ⊎-elim
         (λ k. literal-facts k (sym (by-literal k) ∙ e))
         (λ n. ⊎-elim (λ k. and-facts k (sym (by-and k) ∙ e)) (λ m. absurd (false≢true (sym (by-none n m) ∙ e))) (equal-or-not (p .kind) 1))

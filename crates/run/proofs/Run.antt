@@ -16,7 +16,6 @@ use Rattle.window.specs.LeafRule.{picked}
 use Rattle.window.proofs.Coverage.{covered-iff}
 use Rattle.window.proofs.LeafRule.{picked-well-set, picked-cuts}
 use Rattle.replace.specs.Rewire.{rewired, finished}
-use Rattle.replace.proofs.Allowed.{allowed-facts}
 use Rattle.replace.proofs.Rewire.{rewired-lawful, finished-well-formed}
 use Rattle.replace.proofs.Replacement.{Fits, finished-keeps-outputs}
 use Rattle.replace.proofs.Gain.{falls-by-gain}
@@ -41,7 +40,7 @@ module _ (g h : Graph) (ready : Ready g) (s : Step g h) where
     gate = s .is-gate;
     few = picked-well-set g lawful (s .root) (s .is-gate) .few;
     cut = covered-iff g lawful (picked (g .net) (s .root)) (s .root) (s .is-gate .within) .1 (picked-cuts g lawful (s .root) (s .is-gate));
-    rule = allowed-facts (g .net) (s .root) (picked (g .net) (s .root)) (proposalOf (s .best)) (best-good s .keeps-rule);
+    rule = best-good s .keeps-rule;
     equal = best-good s .equals;
   }
 
