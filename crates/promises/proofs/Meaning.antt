@@ -13,7 +13,7 @@ use Rattle.graph.specs.Evaluate.{outputsUnder}
 use Rattle.graph.specs.Use.{Reached, InUse, inUse, usedGates}
 use Rattle.graph.specs.Drop.{dropped}
 use Rattle.graph.proofs.Use.{first-lower, second-lower, in-use-iff, used-gates-reached}
-use Rattle.graph.proofs.Drop.{AllReached, dropped-size, dropped-well-formed, dropped-all-reached, dropped-twice}
+use Rattle.graph.proofs.Drop.{AllReached, dropped-free, dropped-size, dropped-well-formed, dropped-all-reached, dropped-twice}
 use Rattle.graph.proofs.DropKeeps.{dropped-keeps-outputs}
 use Rattle.text.specs.States.{States, textOf}
 use Rattle.text.specs.Reading.{mostBytes, yields, reading}
@@ -25,12 +25,12 @@ use Rattle.window.proofs.Coverage.{covered-iff}
 use Rattle.replace.specs.declared.Proposal.{Proposal}
 use Rattle.replace.specs.Rewire.{rewired, finished}
 use Rattle.replace.specs.Calls.{applyEffect, appliedOutcome}
-use Rattle.replace.proofs.Rewire.{rewired-lawful, finished-well-formed}
+use Rattle.replace.proofs.Rewire.{finished-free, rewired-lawful, finished-well-formed}
 use Rattle.replace.proofs.Replacement.{Fits, finished-keeps-outputs}
 use Rattle.replace.proofs.Gain.{gain-lowers}
 use Rattle.replace.proofs.Refusals.{Accepted, apply-accepted}
 use Rattle.run.specs.Run.{run}
-use Rattle.run.proofs.Run.{run-keeps-outputs, run-well-formed, run-all-reached}
+use Rattle.run.proofs.Run.{run-keeps-inputs, run-keeps-outputs, run-well-formed, run-all-reached}
 use Rattle.promises.specs.Promises.{Keeps}
 
 -- ---- text
@@ -58,8 +58,9 @@ R-counts-reached-gates = used-gates-reached
 
 -- ---- what takes a graph's place
 
-keeps : (g h : Graph) → ((a : ℕ → Bool) → outputsUnder h a ≡ outputsUnder g a) → WellFormed h → AllReached h → Keeps g h
-keeps g h same ok all = record {
+keeps : (g h : Graph) → h .net .inputs ≡ g .net .inputs → ((a : ℕ → Bool) → outputsUnder h a ≡ outputsUnder g a) → WellFormed h → AllReached h → Keeps g h
+keeps g h inputs same ok all = record {
+  same-inputs = inputs;
   same-outputs = same;
   well-formed = ok;
   first-lower = first-lower h (ok .lawful);
@@ -70,7 +71,7 @@ keeps g h same ok all = record {
 -- dropping the gates not in use
 module _ (g : Graph) (ok : WellFormed g) where
   pub dropped-keeps : Keeps g (dropped g)
-  dropped-keeps = keeps g (dropped g) (dropped-keeps-outputs g (ok .lawful)) (dropped-well-formed g (ok .lawful) ok) (dropped-all-reached g (ok .lawful))
+  dropped-keeps = keeps g (dropped g) (dropped-free g) (dropped-keeps-outputs g (ok .lawful)) (dropped-well-formed g (ok .lawful) ok) (dropped-all-reached g (ok .lawful))
 
   pub dropped-has-R-gates : size (dropped g .net) ≡ usedGates g
   dropped-has-R-gates = dropped-size g
@@ -80,7 +81,7 @@ module _ (g : Graph) (ok : WellFormed g) where
 
   -- a whole run
   pub run-keeps : Keeps g (run g .graph)
-  run-keeps = keeps g (run g .graph) (run-keeps-outputs g ok) (run-well-formed g ok) (run-all-reached g ok)
+  run-keeps = keeps g (run g .graph) (run-keeps-inputs g ok) (run-keeps-outputs g ok) (run-well-formed g ok) (run-all-reached g ok)
 
 -- an accepted replacement
 module _ (g : Graph) (root : ℕ) (w : Leaves) (p : Proposal) (b : Buffers) (accepted : (appliedOutcome ((applyEffect g root w p b) .answer)) .number ≡ 0) where
@@ -104,7 +105,7 @@ module _ (g : Graph) (root : ℕ) (w : Leaves) (p : Proposal) (b : Buffers) (acc
 
   pub replacement-keeps : Keeps g (finished g root p)
   replacement-keeps =
-      keeps g (finished g root p) (finished-keeps-outputs g root w p fits)
+      keeps g (finished g root p) (finished-free g root p) (finished-keeps-outputs g root w p fits)
       (finished-well-formed g lawful root (fits .gate) w p (fits .rule) (facts .window .graph))
       (unfold finished in dropped-all-reached (rewired g root p) (rewired-lawful g lawful root (fits .gate) w p (fits .rule)))
 

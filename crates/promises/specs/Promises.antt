@@ -1,12 +1,15 @@
 -- What a customer is promised: of every call, and of a graph that took another's place.
 -- Assumes nothing.
-use Prim.Native.Nat.{ℕ, _<_}
+use Prim.Native.Nat.{ℕ, _*_, _<_}
 use mathlib.Core.Path.{_≡_}
 use mathlib.Core.Bool.{Bool}
+use mathlib.Core.List.{List}
+use lib.ListN.{length, take, drop}
 use Rattle.graph.specs.declared.refusal.Refusal.{Refusal}
 use Rattle.graph.specs.Refuse.{numberOf, Answers}
+use Rattle.graph.specs.Lent.{Buffers}
 use Rattle.graph.specs.Literal.{varOf}
-use Rattle.graph.specs.Graph.{Graph, first, second, IsGate, WellFormed}
+use Rattle.graph.specs.Graph.{Graph, size, first, second, IsGate, WellFormed}
 use Rattle.graph.specs.Evaluate.{outputsUnder}
 use Rattle.graph.specs.Use.{InUse}
 
@@ -17,6 +20,7 @@ pub record Settled {L : Type 0} (given : Refusal → Type 0) (number : ℕ) (len
 
 -- demand 2: the graph h in the place of g
 pub record Keeps (g h : Graph) : Type 0 where
+  pub same-inputs : h .net .inputs ≡ g .net .inputs
   -- each output has its old value under every assignment
   pub same-outputs : (a : ℕ → Bool) → outputsUnder h a ≡ outputsUnder g a
   pub well-formed : WellFormed h
@@ -25,3 +29,16 @@ pub record Keeps (g h : Graph) : Type 0 where
   pub second-lower : (v : ℕ) → IsGate (h .net) v → varOf (second (h .net) v) < v
   -- and no gate is left that nothing needs
   pub all-in-use : (v : ℕ) → IsGate (h .net) v → InUse h v
+
+-- ---- what an accepted call leaves in lent memory
+
+-- these words stand in the first places, and the places past them keep their contents
+pub record Stored {A : Type 0} (xs before after : List A) : Type 0 where
+  pub first-places : take (length xs) after ≡ xs
+  pub past-them : drop (length xs) after ≡ drop (length xs) before
+
+-- two lists lent for a graph hold h: two words a gate and one an output
+pub record Holds (h : Graph) (before after : Buffers) : Type 0 where
+  pub gate-words : length (h .net .gates) ≡ 2 * size (h .net)
+  pub gates-stored : Stored (h .net .gates) (before .gates) (after .gates)
+  pub outputs-stored : Stored (h .outputs) (before .outputs) (after .outputs)

@@ -14,7 +14,7 @@ use Rattle.graph.specs.Graph.{Net, Graph, free, size, last, sinks, first, secon
 use Rattle.graph.proofs.Lists.{equal-or-not}
 use Rattle.graph.proofs.WellFormed.{larger-first}
 use Rattle.graph.proofs.Gather.{length-gather, getD-gather}
-use Rattle.graph.proofs.Drop.{dropped-well-formed}
+use Rattle.graph.proofs.Drop.{dropped-free, dropped-well-formed}
 use Rattle.window.specs.declared.Leaves.{Leaves}
 use Rattle.replace.specs.declared.Proposal.{Proposal}
 use Rattle.replace.specs.Proposal.{Allowed, a-literal, an-and}
@@ -95,6 +95,10 @@ module _ (net : Net) (root : ℕ) (p : Proposal) where
     pub and-root : v ≡ root → p .kind ≡ 1 → Holds (p .first .0) (p .second .0)
     unfolding rewiredGate rootGates
     and-root e k = words _ _ (rw (eq-eqb v root e, k))
+
+pub finished-free : (g : Graph) (root : ℕ) (p : Proposal) → free (finished g root p .net) ≡ free (g .net)
+unfolding finished
+finished-free g root p = dropped-free (rewired g root p) ∙ unfold rewired in rewired-free (g .net) root p
 
 -- ---- the rules hold: a reference to the root becomes one to the root or below it
 

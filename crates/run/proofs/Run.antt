@@ -10,13 +10,13 @@ use Rattle.graph.specs.Graph.{Graph, size, IsGate, Lawful, WellFormed}
 use Rattle.graph.specs.Use.{usedGates}
 use Rattle.graph.specs.Drop.{dropped}
 use Rattle.graph.specs.Evaluate.{outputsUnder}
-use Rattle.graph.proofs.Drop.{AllReached, all-used, dropped-well-formed, dropped-all-reached}
+use Rattle.graph.proofs.Drop.{AllReached, dropped-free, all-used, dropped-well-formed, dropped-all-reached}
 use Rattle.graph.proofs.DropKeeps.{dropped-keeps-outputs}
 use Rattle.window.specs.LeafRule.{picked}
 use Rattle.window.proofs.Coverage.{covered-iff}
 use Rattle.window.proofs.LeafRule.{picked-well-set, picked-cuts}
 use Rattle.replace.specs.Rewire.{rewired, finished}
-use Rattle.replace.proofs.Rewire.{rewired-lawful, finished-well-formed}
+use Rattle.replace.proofs.Rewire.{finished-free, rewired-lawful, finished-well-formed}
 use Rattle.replace.proofs.Replacement.{Fits, finished-keeps-outputs}
 use Rattle.replace.proofs.Gain.{falls-by-gain}
 use Rattle.listing.specs.Listing.{proposalOf}
@@ -65,6 +65,9 @@ module _ (g h : Graph) (ready : Ready g) (s : Step g h) where
   step-shrinks =
       let b = best-good s .at-least-one in
       omega (arith, step-lowers, all-used g lawful (ready .all-reached), all-used h (step-ready .well-formed .lawful) (step-ready .all-reached))
+
+  pub step-keeps-inputs : h .net .inputs ≡ g .net .inputs
+  step-keeps-inputs = ap (λ (e : Graph). e .net .inputs) (s .becomes) ∙ finished-free g (s .root) (proposalOf (s .best))
 
   pub step-keeps-outputs : (a : ℕ → Bool) → outputsUnder h a ≡ outputsUnder g a
   step-keeps-outputs a =
@@ -115,6 +118,10 @@ steps-ready : {g e : Graph} {n : ℕ} → Steps g n e → Ready g → Ready e
 steps-ready (ends h) r = r
 steps-ready (goes-on {g} {h} s t) r = steps-ready t (step-ready g h r s)
 
+steps-keep-inputs : {g e : Graph} {n : ℕ} → Steps g n e → Ready g → e .net .inputs ≡ g .net .inputs
+steps-keep-inputs (ends h) r = refl
+steps-keep-inputs (goes-on {g} {h} s t) r = steps-keep-inputs t (step-ready g h r s) ∙ step-keeps-inputs g h r s
+
 steps-keep-outputs : {g e : Graph} {n : ℕ} → Steps g n e → Ready g → (a : ℕ → Bool) → outputsUnder e a ≡ outputsUnder g a
 steps-keep-outputs (ends h) r a = refl
 steps-keep-outputs (goes-on {g} {h} s t) r a = steps-keep-outputs t (step-ready g h r s) a ∙ step-keeps-outputs g h r s a
@@ -131,6 +138,9 @@ module _ (g : Graph) (w : WellFormed g) where
 
   pub run-all-reached : AllReached (run g .graph)
   run-all-reached = run-ready .all-reached
+
+  pub run-keeps-inputs : run g .graph .net .inputs ≡ g .net .inputs
+  run-keeps-inputs = steps-keep-inputs (run-steps g w) (dropped-ready g w) ∙ dropped-free g
 
   pub run-keeps-outputs : (a : ℕ → Bool) → outputsUnder (run g .graph) a ≡ outputsUnder g a
   run-keeps-outputs a = steps-keep-outputs (run-steps g w) (dropped-ready g w) a ∙ dropped-keeps-outputs g (w .lawful) a
