@@ -1,16 +1,14 @@
--- What stands in a list: by its place and by its test, in lists joined, kept, mapped and gathered.
+-- What stands in a list: by its place, and in lists joined, kept, mapped and gathered.
 -- Assumes nothing.
 use mathlib.Core.Path.{_≡_, refl, sym, ap, _∙_}
-use mathlib.Core.Bool.{Bool, true, false, _||_, false≢true}
+use mathlib.Core.Bool.{Bool, true, false, false≢true}
 use mathlib.Core.List.{List, [], _∷_, _++_, map}
 use mathlib.Core.Logic.{_⊎_, inl, inr, ⊎-elim}
 use Prim.Native.Nat.{ℕ, zero, suc, _<_}
 use native.Mathlib.Nat.{le-of-suc-le-suc, not-suc-le-zero}
 use native.Mathlib.Omega.{arith}
-use borrow.Author.Tests.{eqb-true}
-use lib.Dec.{eqb}
 use lib.ListN.{length, getD}
-use Rattle.graph.specs.Lists.{_∈_, here, later, gather, isIn, keep}
+use Rattle.graph.specs.Lists.{_∈_, here, later, gather, keep}
 use Rattle.graph.proofs.Lists.{at-most-or-above}
 
 -- ---- by its place
@@ -24,17 +22,6 @@ module _ {A : Type 0} (d : A) where
   pub place-of : {x : A} {xs : List A} → x ∈ xs → (j : ℕ) × (j < length xs) × (getD xs j d ≡ x)
   place-of (here e) = (0, omega arith, sym e)
   place-of (later m) = let p = place-of m in (suc (p .0), omega (arith, p .1), p .2)
-
--- ---- by the test
-
-pub is-in : (v : ℕ) (xs : List ℕ) → isIn v xs ≡ true → v ∈ xs
-unfolding isIn
-is-in v [] e = absurd (false≢true e)
-is-in v (x ∷ xs) e = go (eqb v x) refl e (is-in v xs)
-  where
-    go : (b : Bool) → eqb v x ≡ b → b || isIn v xs ≡ true → (isIn v xs ≡ true → v ∈ xs) → v ∈ (x ∷ xs)
-    go true q h r = here (eqb-true v x q)
-    go false q h r = later (r h)
 
 -- ---- in single steps and in joined lists
 

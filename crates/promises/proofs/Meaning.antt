@@ -27,7 +27,6 @@ use Rattle.replace.specs.Rewire.{rewired, finished}
 use Rattle.replace.specs.Calls.{applyEffect, appliedOutcome}
 use Rattle.replace.proofs.Rewire.{finished-free, rewired-lawful, finished-well-formed}
 use Rattle.replace.proofs.Replacement.{Fits, finished-keeps-outputs}
-use Rattle.replace.proofs.Gain.{gain-lowers}
 use Rattle.replace.proofs.Refusals.{Accepted, apply-accepted}
 use Rattle.run.specs.Run.{run}
 use Rattle.run.proofs.Run.{run-keeps-inputs, run-keeps-outputs, run-well-formed, run-all-reached}
@@ -110,4 +109,4 @@ module _ (g : Graph) (root : ℕ) (w : Leaves) (p : Proposal) (b : Buffers) (acc
       (unfold finished in dropped-all-reached (rewired g root p) (rewired-lawful g lawful root (fits .gate) w p (fits .rule)))
 
   pub replacement-leaves-fewer-gates : usedGates (finished g root p) < usedGates g
-  replacement-leaves-fewer-gates = gain-lowers g root p (facts .gains)
+  replacement-leaves-fewer-gates = facts .fewer

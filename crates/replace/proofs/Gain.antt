@@ -1,10 +1,11 @@
--- A gain of at least 1 is the number of gates in use that the replacement saves.
+-- A gain of at least 1 means that fewer gates are in use, and is the number of them that the replacement saves.
 -- Assumes nothing.
-use mathlib.Core.Path.{_≡_, refl, ap}
+use mathlib.Core.Path.{_≡_, refl, ap, _∙_}
 use mathlib.Core.Bool.{Bool, true, false, cond, false≢true}
+use mathlib.Core.Logic.{_↔_}
 use Prim.Native.Nat.{ℕ, suc, _+_, _-_, _≤_, _<_}
 use native.Mathlib.Omega.{arith}
-use borrow.Author.Tests.{ltb-true, ltb-false}
+use borrow.Author.Tests.{ltb-true, ltb-false, lt-ltb, le-ltb}
 use lib.Dec.{ltb}
 use lib.IntN.{ℤ, pos, negsuc, natAbs, subℕ}
 use Rattle.graph.specs.Graph.{Graph}
@@ -21,6 +22,10 @@ at-least-one-falls a b e = go (ltb a b) refl e
     go true q h = absurd (false≢true h)
     go false q h = let l = ltb-true 0 (a - b) h in omega (arith, ltb-false a b q)
 
+falls-at-least-one : (a b : ℕ) → b < a → atLeastOne (subℕ a b) ≡ true
+unfolding atLeastOne
+falls-at-least-one a b l = ap (λ (t : Bool). atLeastOne (cond t (negsuc (b - suc a)) (pos (a - b)))) (le-ltb a b (omega arith)) ∙ lt-ltb 0 (a - b) (omega arith)
+
 positive-difference : (a b n : ℕ) → subℕ a b ≡ pos n → 1 ≤ n → b + n ≡ a
 positive-difference a b n e h = go (ltb a b) refl e
   where
@@ -33,9 +38,9 @@ positive-difference a b n e h = go (ltb a b) refl e
     go false q d = omega (arith, ap natAbs d, ltb-false a b q)
 
 module _ (g : Graph) (root : ℕ) (p : Proposal) where
-  pub gain-lowers : atLeastOne (gain g root p) ≡ true → usedGates (finished g root p) < usedGates g
+  pub gain-iff : (atLeastOne (gain g root p) ≡ true) ↔ (usedGates (finished g root p) < usedGates g)
   unfolding gain
-  gain-lowers e = at-least-one-falls (usedGates g) (usedGates (finished g root p)) e
+  gain-iff = (at-least-one-falls (usedGates g) (usedGates (finished g root p)), falls-at-least-one (usedGates g) (usedGates (finished g root p)))
 
   -- R falls by the gain
   pub falls-by-gain : (n : ℕ) → gain g root p ≡ pos n → 1 ≤ n → usedGates (finished g root p) + n ≡ usedGates g

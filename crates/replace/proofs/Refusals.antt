@@ -1,16 +1,16 @@
 -- Applying a proposal: the refusal given is the lowest that holds, what is known where none does, and that the order is never lost.
 -- Assumes nothing.
-use mathlib.Core.Path.{_≡_, refl, sym, _∙_}
+use mathlib.Core.Path.{_≡_, refl}
 use mathlib.Core.Option.{none}
-use mathlib.Core.Bool.{true, false≢true}
+use mathlib.Core.Bool.{true}
 use mathlib.Core.Logic.{_↔_, _⊎_, inl, inr}
-use Prim.Native.Nat.{ℕ}
+use Prim.Native.Nat.{ℕ, _≤_, _<_}
 use native.Mathlib.Omega.{arith}
-use borrow.Author.Tests.{not-true, not-false}
 use Rattle.graph.specs.declared.refusal.Refusal.{Refusal}
 use Rattle.graph.specs.declared.refusal.Refusal.the-variants.{BadGraph, BadRoot, BadCandidate, NoGain, OrderLost}
 use Rattle.graph.specs.Lent.{Buffers}
 use Rattle.graph.specs.Refuse.{firstRefusal, numberOf, Lowest, Answers}
+use Rattle.graph.specs.Use.{usedGates}
 use Rattle.graph.specs.Graph.{Graph}
 use Rattle.graph.proofs.WellFormed.{well-formed-iff}
 use Rattle.graph.proofs.Settles.{settles-answers, shown, none-shown}
@@ -22,7 +22,7 @@ use Rattle.window.specs.Calls.{windowRefusals, WindowGiven, rootRefusals, by-ro
 use Rattle.window.proofs.Refusals.{Window, window-accepted, window-decides, window-at-most}
 use Rattle.replace.specs.declared.Proposal.{Proposal}
 use Rattle.replace.specs.Proposal.{Allowed, proposedTable}
-use Rattle.replace.specs.Rewire.{finished, gain, atLeastOne}
+use Rattle.replace.specs.Rewire.{finished}
 use Rattle.replace.specs.Calls.{
   equalTables,
   ApplyGiven,
@@ -36,6 +36,7 @@ use Rattle.replace.specs.Calls.{
   applyEffect,
   appliedOutcome,
 }
+use Rattle.replace.proofs.Gain.{gain-iff}
 use Rattle.replace.proofs.Allowed.{allowed-iff}
 use Rattle.replace.proofs.Rewire.{finished-well-formed}
 
@@ -49,7 +50,7 @@ pub record Accepted (g : Graph) (root : ℕ) (w : Leaves) (p : Proposal) : Type 
   pub window : Window g root w
   pub rule : Allowed (g .net) root w p
   pub equal : proposedTable (g .net) root w p ≡ table (g .net) w root
-  pub gains : atLeastOne (gain g root p) ≡ true
+  pub fewer : usedGates (finished g root p) < usedGates g
 
 module _ (g : Graph) (root : ℕ) (w : Leaves) (p : Proposal) where
   -- ---- the refusals
@@ -61,9 +62,12 @@ module _ (g : Graph) (root : ℕ) (w : Leaves) (p : Proposal) where
     apply-complete q (by-window h) = inl h
     apply-complete q (bad-candidate h) = inr (λ s. let t = s .1 .1 .1 .1 in h (denial-off _ (allowed-iff (g .net) root w p) (t .0 refl)))
     apply-complete q (not-equal h) = inr (λ s. let t = s .1 .1 .1 .1 in h (denial-off _ (equal-iff g root w p) (t .1 .0 refl)))
-    apply-complete q (no-gain h) = inr (λ s. let t = s .1 .1 .1 .1 in false≢true (sym h ∙ not-false _ (t .1 .1 .0 refl)))
+    apply-complete q (no-gain h) = inr (λ s. let t = s .1 .1 .1 .1 in let f = denial-off _ (gain-iff g root p) (t .1 .1 .0 refl) in omega arith)
     apply-complete q (order-lost h) = inr (λ s. let t = s .1 .1 .1 .1 in h (denial-off _ (well-formed-iff (finished g root p)) (t .1 .1 .1 .0 refl)))
     apply-complete q (no-room h) = inr (λ s. let t = s .1 .1 .1 .1 in test-off _ (no-room-iff (finished g root p) b) (t .1 .1 .1 .1 .0 refl) h)
+
+    no-fewer : ¬ (usedGates (finished g root p) < usedGates g) → usedGates g ≤ usedGates (finished g root p)
+    no-fewer n = omega arith
 
     apply-decides : Decides (ApplyGiven g root w p b) (applyRefusals g root w p b)
     unfolding applyRefusals windowRefusals rootRefusals ascends
@@ -73,7 +77,7 @@ module _ (g : Graph) (root : ℕ) (w : Leaves) (p : Proposal) where
           λ _. (
             λ e. not-equal (denial-on _ (equal-iff g root w p) e),
             λ _. (
-              λ e. no-gain (not-true _ e),
+              λ e. no-gain (no-fewer (denial-on _ (gain-iff g root p) e)),
               λ _. (
                 λ e. order-lost (denial-on _ (well-formed-iff (finished g root p)) e),
                 λ _. (λ e. no-room (no-room-iff (finished g root p) b .0 e), λ _. tt),
@@ -107,7 +111,7 @@ module _ (g : Graph) (root : ℕ) (w : Leaves) (p : Proposal) where
           window = window-accepted g root w (parts .0);
           rule = denial-off _ (allowed-iff (g .net) root w p) (s .0 refl);
           equal = denial-off _ (equal-iff g root w p) (s .1 .0 refl);
-          gains = not-false _ (s .1 .1 .0 refl);
+          fewer = denial-off _ (gain-iff g root p) (s .1 .1 .0 refl);
         }
 
     -- where the order would be lost a lower refusal holds

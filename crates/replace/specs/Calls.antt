@@ -1,8 +1,8 @@
 -- Applying a proposal as a call: the refusals in order, the answer, and the lent lists afterwards.
 -- Assumes nothing.
-use Prim.Native.Nat.{ℕ}
+use Prim.Native.Nat.{ℕ, _≤_}
 use mathlib.Core.Path.{_≡_}
-use mathlib.Core.Bool.{Bool, false, not}
+use mathlib.Core.Bool.{Bool, not}
 use mathlib.Core.List.{List, [], _∷_, _++_}
 use mathlib.Core.Option.{none, some}
 use lib.ListN.{length}
@@ -10,6 +10,7 @@ use Rattle.graph.specs.declared.refusal.Refusal.{Refusal}
 use Rattle.graph.specs.declared.refusal.Refusal.the-variants.{BadCandidate, NotEqual, NoGain, OrderLost, NoRoom}
 use Rattle.graph.specs.Lent.{Buffers, noRoomFor, NoRoomFor, storedIn, Effect, _leaving_}
 use Rattle.graph.specs.Refuse.{Row, _⇒_, firstRefusal, Outcome, accepted, refused, numberOf}
+use Rattle.graph.specs.Use.{usedGates}
 use Rattle.graph.specs.Graph.{Graph, size, wellFormed, WellFormed}
 use Rattle.window.specs.declared.Leaves.{Leaves}
 use Rattle.window.specs.Table.{table, sameTable}
@@ -29,7 +30,7 @@ pub data ApplyGiven (g : Graph) (root : ℕ) (w : Leaves) (p : Proposal) (b : Bu
   by-window : {r : Refusal} → WindowGiven g root w r → ApplyGiven g root w p b r
   bad-candidate : ¬ Allowed (g .net) root w p → ApplyGiven g root w p b BadCandidate
   not-equal : ¬ (proposedTable (g .net) root w p ≡ table (g .net) w root) → ApplyGiven g root w p b NotEqual
-  no-gain : atLeastOne (gain g root p) ≡ false → ApplyGiven g root w p b NoGain
+  no-gain : usedGates g ≤ usedGates (finished g root p) → ApplyGiven g root w p b NoGain
   order-lost : ¬ WellFormed (finished g root p) → ApplyGiven g root w p b OrderLost
   no-room : NoRoomFor (finished g root p) b → ApplyGiven g root w p b NoRoom
 

@@ -14,6 +14,7 @@ use Rattle.graph.specs.Lists.{_∈_, filled, every}
 use Rattle.graph.proofs.Lists.{at-most-or-above, every-at, every-of, done, _then_, all-at, all-of}
 use Rattle.window.specs.declared.Leaves.{Leaves}
 use Rattle.window.specs.Leaves.{leafLimit, leafList, leavesOf, ascendsFrom, leafRules, wellSet, WellSet}
+use Rattle.window.proofs.Sets.{ascends-above, ascends-places, ascends-of}
 use Rattle.graph.proofs.Members.{at-place}
 
 well-is : (root : ℕ) (w : Leaves) → wellSet root w ≡ every (leafRules root w)
@@ -33,7 +34,8 @@ module _ (root : ℕ) (w : Leaves) where
       let at = every-at (leafRules root w) (sym (well-is root w) ∙ e) in
       record {
         few = leb-true _ _ (at 0);
-        ascending = at 1;
+        at-least-one = ascends-above 0 (leafList w) (at 1);
+        ascending = ascends-places 0 (leafList w) (at 1);
         below-root = λ j h. ltb-true _ _ (all-at (λ v. ltb v root) 0 (leafList w) (at 2) j h);
         unused-zero = λ j h. ⊎-elim
             (λ l. sym (rest-at w j h) ∙ eqb-true _ _ (all-at (λ x. eqb x 0) 0 (drop (w .count) (w .places)) (at 3) (j - w .count) (omega (arith, length-drop (w .count) (w .places)))))
@@ -47,7 +49,7 @@ module _ (root : ℕ) (w : Leaves) where
       well-is root w
       ∙ every-of
       (le-leb _ _ (s .few)
-      then s .ascending
+      then ascends-of 0 (leafList w) (s .at-least-one) (s .ascending)
       then all-of (λ v. ltb v root) 0 (leafList w) (λ j h. lt-ltb _ _ (s .below-root j h))
       then all-of (λ x. eqb x 0) 0 (drop (w .count) (w .places)) (λ j h. eq-eqb _ _ (getD-drop (w .count) (w .places) j 0 ∙ s .unused-zero (w .count + j) (omega arith)))
       then done)
@@ -79,7 +81,8 @@ unfolding leavesOf
 leaves-of-well-set root xs few up below =
     record {
       few = few;
-      ascending = ap (ascendsFrom 0) (leaves-of-list xs) ∙ up;
+      at-least-one = ascends-above 0 (leafList (leavesOf xs)) (ap (ascendsFrom 0) (leaves-of-list xs) ∙ up);
+      ascending = ascends-places 0 (leafList (leavesOf xs)) (ap (ascendsFrom 0) (leaves-of-list xs) ∙ up);
       below-root = λ j h. below _ (subst (λ (ys : List ℕ). getD (leafList (leavesOf xs)) j 0 ∈ ys) (leaves-of-list xs) (at-place 0 (leafList (leavesOf xs)) j h));
       unused-zero = λ j h. filled-zero leafLimit xs j h;
     }

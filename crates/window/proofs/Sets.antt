@@ -38,10 +38,22 @@ ascends-lower : (x y : ℕ) (ys : List ℕ) → x ≤ y → ascendsFrom y ys ≡
 ascends-lower x y [] h e = ascends-nil x
 ascends-lower x y (z ∷ zs) h e = ascends-cons x z zs (omega (arith, ascends-head y z zs e)) (ascends-tail y z zs e)
 
-ascends-above : (x : ℕ) (ys : List ℕ) → ascendsFrom x ys ≡ true → (j : ℕ) → j < length ys → x < getD ys j 0
+pub ascends-above : (x : ℕ) (ys : List ℕ) → ascendsFrom x ys ≡ true → (j : ℕ) → j < length ys → x < getD ys j 0
 ascends-above x [] e j h = absurd (not-suc-le-zero h)
 ascends-above x (y ∷ ys) e zero h = ascends-head x y ys e
 ascends-above x (y ∷ ys) e (suc j) h = omega (arith, ascends-head x y ys e, ascends-above y ys (ascends-tail x y ys e) j (le-of-suc-le-suc h))
+
+pub ascends-places : (x : ℕ) (ys : List ℕ) → ascendsFrom x ys ≡ true → (i j : ℕ) → i < j → j < length ys → getD ys i 0 < getD ys j 0
+ascends-places x [] e i j l h = absurd (not-suc-le-zero h)
+ascends-places x (y ∷ ys) e i zero l h = absurd (not-suc-le-zero l)
+ascends-places x (y ∷ ys) e zero (suc j) l h = ascends-above y ys (ascends-tail x y ys e) j (le-of-suc-le-suc h)
+ascends-places x (y ∷ ys) e (suc i) (suc j) l h = ascends-places y ys (ascends-tail x y ys e) i j (le-of-suc-le-suc l) (le-of-suc-le-suc h)
+
+pub ascends-of : (x : ℕ) (ys : List ℕ) → ((j : ℕ) → j < length ys → x < getD ys j 0)
+    → ((i j : ℕ) → i < j → j < length ys → getD ys i 0 < getD ys j 0) → ascendsFrom x ys ≡ true
+ascends-of x [] h o = ascends-nil x
+ascends-of x (y ∷ ys) h o =
+    ascends-cons x y ys (h 0 (omega arith)) (ascends-of y ys (λ j l. o 0 (suc j) (omega arith) (omega arith)) (λ i j l k. o (suc i) (suc j) (omega arith) (omega arith)))
 
 -- a higher variable stands at a later place
 pub higher-later : (x : ℕ) (ys : List ℕ) → ascendsFrom x ys ≡ true → (i j : ℕ) → i < length ys → getD ys i 0 < getD ys j 0 → i < j

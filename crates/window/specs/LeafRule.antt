@@ -84,7 +84,7 @@ pub record Chosen (limit : ℕ) (net : Net) (xs ys : List ℕ) : Type 0 where
   pub none-smaller : (u : ℕ) → Expandable limit net xs u → length ys ≤ length (expand net xs u)
   pub higher-larger : (u : ℕ) → Expandable limit net xs u → leaf < u → length ys < length (expand net xs u)
 
--- from the first set the rule comes to the second: it expands until no expansion is left
+-- from the first set the rule comes to the second: it expands until no leaf can be expanded
 pub data Follows (limit : ℕ) (net : Net) : List ℕ → List ℕ → Type 0 where
-  stops : {xs : List ℕ} → expansions limit net xs ≡ [] → Follows limit net xs xs
+  stops : {xs : List ℕ} → ((v : ℕ) → ¬ Expandable limit net xs v) → Follows limit net xs xs
   takes : {xs ys zs : List ℕ} → Chosen limit net xs ys → Follows limit net ys zs → Follows limit net xs zs

@@ -45,7 +45,8 @@ wellSet root w = every (leafRules root w)
 -- the same as facts
 pub record WellSet (root : ℕ) (w : Leaves) : Type 0 where
   pub few : w .count ≤ leafLimit
-  pub ascending : ascendsFrom 0 (leafList w) ≡ true
+  pub at-least-one : (j : ℕ) → j < length (leafList w) → 0 < getD (leafList w) j 0
+  pub ascending : (i j : ℕ) → i < j → j < length (leafList w) → getD (leafList w) i 0 < getD (leafList w) j 0
   pub below-root : (j : ℕ) → j < length (leafList w) → getD (leafList w) j 0 < root
   pub unused-zero : (j : ℕ) → w .count ≤ j → getD (w .places) j 0 ≡ 0
 
