@@ -1,4 +1,4 @@
--- Dropping the gates not in use: the graph stays lawful, all its gates are in use, every output keeps its value, and once is enough.
+-- Dropping the gates not in use: R gates are left, in order and all in use; a graph that has no others is left as it is.
 -- Assumes nothing.
 use mathlib.Core.Path.{_≡_, refl, sym, ap, ap₂, _∙_, subst}
 use mathlib.Core.List.{List, map, map-id}
@@ -130,14 +130,6 @@ module _ (g : Graph) (ok : Lawful g) where
           subst (λ (x : ℕ). (second (dropped g .net) x ≤ first (dropped g .net) x) × (first (dropped g .net) x < 2 * x)) (k .number-is-u)
           (gate-stays (k .old) (k .is-gate) (k .is-marked))
 
-  pub dropped-well-formed : WellFormed g → WellFormed (dropped g)
-  dropped-well-formed w = record {
-    lawful = dropped-lawful;
-    inputs-few = rw (dropped-free g) (w .inputs-few);
-    outputs-few = let h = w .outputs-few in omega (arith, sink-count g);
-    gates-few = let h = w .gates-few in omega (arith, dropped-size g, used-at-most-size g);
-  }
-
   -- ---- every gate left is in use
 
   reached-stays : (v : ℕ) → Reached g v → Reached (dropped g) (number g v)
@@ -195,6 +187,14 @@ module _ (g : Graph) (ok : Lawful g) where
         (sym (same-net (g .net) (dropped g .net) (sym (dropped-free g)) (ok .even)
         (let s = dropped-size g in let e = ok .even in let d = dropped-lawful .even in omega (arith, all-used)) gate-same))
         sinks-same
+
+pub dropped-well-formed : (g : Graph) → WellFormed g → WellFormed (dropped g)
+dropped-well-formed g ok = record {
+  lawful = dropped-lawful g (ok .lawful);
+  inputs-few = rw (dropped-free g) (ok .inputs-few);
+  outputs-few = let h = ok .outputs-few in omega (arith, sink-count g);
+  gates-few = let h = ok .gates-few in omega (arith, dropped-size g, used-at-most-size g);
+}
 
 -- dropping again changes nothing
 pub dropped-twice : (g : Graph) → Lawful g → dropped (dropped g) ≡ dropped g

@@ -13,7 +13,7 @@ use Rattle.graph.specs.Evaluate.{outputsUnder}
 use Rattle.graph.specs.Use.{Reached, InUse, inUse, usedGates}
 use Rattle.graph.specs.Drop.{dropped}
 use Rattle.graph.proofs.Use.{first-lower, second-lower, in-use-iff, used-gates-reached}
-use Rattle.graph.proofs.Drop.{AllReached, dropped-free, dropped-size, dropped-well-formed, dropped-all-reached, dropped-twice}
+use Rattle.graph.proofs.Drop.{AllReached, dropped-free, dropped-size, dropped-well-formed, dropped-all-reached, dropped-twice, dropped-same, dropped-uses}
 use Rattle.graph.proofs.DropKeeps.{dropped-keeps-outputs}
 use Rattle.text.specs.States.{States, textOf}
 use Rattle.text.specs.Reading.{mostBytes, yields, reading}
@@ -70,13 +70,19 @@ keeps g h inputs same ok all = record {
 -- dropping the gates not in use
 module _ (g : Graph) (ok : WellFormed g) where
   pub dropped-keeps : Keeps g (dropped g)
-  dropped-keeps = keeps g (dropped g) (dropped-free g) (dropped-keeps-outputs g (ok .lawful)) (dropped-well-formed g (ok .lawful) ok) (dropped-all-reached g (ok .lawful))
+  dropped-keeps = keeps g (dropped g) (dropped-free g) (dropped-keeps-outputs g (ok .lawful)) (dropped-well-formed g ok) (dropped-all-reached g (ok .lawful))
 
   pub dropped-has-R-gates : size (dropped g .net) ≡ usedGates g
   dropped-has-R-gates = dropped-size g
 
+  pub dropped-keeps-R : usedGates (dropped g) ≡ usedGates g
+  dropped-keeps-R = dropped-uses g (ok .lawful)
+
   pub dropped-once-is-enough : dropped (dropped g) ≡ dropped g
   dropped-once-is-enough = dropped-twice g (ok .lawful)
+
+  pub nothing-to-drop : ((v : ℕ) → IsGate (g .net) v → Reached g v) → dropped g ≡ g
+  nothing-to-drop = dropped-same g (ok .lawful)
 
   -- a whole run
   pub run-keeps : Keeps g (run g .graph)
@@ -105,7 +111,7 @@ module _ (g : Graph) (root : ℕ) (w : Leaves) (p : Proposal) (b : Buffers) (acc
   pub replacement-keeps : Keeps g (finished g root p)
   replacement-keeps =
       keeps g (finished g root p) (finished-free g root p) (finished-keeps-outputs g root w p fits)
-      (finished-well-formed g lawful root (fits .gate) w p (fits .rule) (facts .window .graph))
+      (finished-well-formed g (facts .window .graph) root (fits .gate) w p (fits .rule))
       (unfold finished in dropped-all-reached (rewired g root p) (rewired-lawful g lawful root (fits .gate) w p (fits .rule)))
 
   pub replacement-leaves-fewer-gates : usedGates (finished g root p) < usedGates g

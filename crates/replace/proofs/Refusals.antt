@@ -121,7 +121,7 @@ module _ (g : Graph) (root : ℕ) (w : Leaves) (p : Proposal) where
     never-given l (order-lost h) =
         l .none-lower BadGraph (omega arith) (by-window (by-root (bad-graph (λ ok.
         l .none-lower BadRoot (omega arith) (by-window (by-root (bad-root (λ used.
-        l .none-lower BadCandidate (omega arith) (bad-candidate (λ rule. h (finished-well-formed g (ok .lawful) root (used .is-gate) w p rule ok)))))))))))
+        l .none-lower BadCandidate (omega arith) (bad-candidate (λ rule. h (finished-well-formed g ok root (used .is-gate) w p rule)))))))))))
 
     pub order-lost-never-given : ¬ ((appliedOutcome ((applyEffect g root w p b) .answer)) .number ≡ numberOf OrderLost)
     order-lost-never-given e = let l = apply-answers .refuses OrderLost .0 e in never-given l (l .holds)

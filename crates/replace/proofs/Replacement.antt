@@ -1,4 +1,4 @@
--- A replacement whose table is the root's: every output keeps its value, and the finished graph is well formed.
+-- A replacement whose table is the root's leaves every output its value, in the rewired and in the finished graph.
 -- Kinds 0 and 1 are two uses of the one argument in Circuit.
 -- Assumes nothing.
 use mathlib.Core.Path.{_≡_, refl, sym, ap, ap₂, _∙_}
@@ -55,9 +55,9 @@ moved-is net net′ root p l = ⊎-elim
     (λ n. ap (λ (s : ℕ). flip s l) (stand-other root p (varOf l) n) ∙ omega arith ∙ sym (redirected-other root p l n))
     (equal-or-not (varOf l) root)
 
--- of two literals the larger stands first; their AND is the same
-larger-first : (f : ℕ → Bool) (x y : ℕ) → f (max x y) && f (min x y) ≡ f x && f y
-larger-first f x y = ⊎-elim
+-- two literals have the same AND in either order
+either-order : (f : ℕ → Bool) (x y : ℕ) → f (max x y) && f (min x y) ≡ f x && f y
+either-order f x y = ⊎-elim
     (λ h. let a : max x y ≡ y = omega arith in let b : min x y ≡ x = omega arith in rw (a, b) (and-comm (f y) (f x)))
     (λ h. let a : max x y ≡ x = omega arith in let b : min x y ≡ y = omega arith in rw (a, b)) (at-most-or-above x y)
 
@@ -109,7 +109,7 @@ module _ (g : Graph) (root : ℕ) (w : Leaves) (p : Proposal) (fits : Fits g roo
         let h = and-root (g .net) root p root (fits .gate) refl k in
         value-gate (g′ .net) a root (i .above) b (omega arith)
         ∙ ap₂ (λ (x y : ℕ). literalUnder (g′ .net) a x && literalUnder (g′ .net) a y) (h .0) (h .1)
-        ∙ larger-first (literalUnder (g′ .net) a) (p .first .0) (p .second .0)
+        ∙ either-order (literalUnder (g′ .net) a) (p .first .0) (p .second .0)
 
     root-literal : p .kind ≡ 1 → p .turned ≤ 1
         → literalUnder (g′ .net) a (standIn root p) ≡ turned bools (isOdd (p .turned)) (valueUnder (g′ .net) a root)

@@ -157,15 +157,16 @@ module _ (g : Graph) (ok : Lawful g) (root : ℕ) (gate : IsGate (g .net) root) 
     sinks-within = λ j h. unfold rewired in omega (arith, sink-at j (omega (arith, length-map (sinks g) (redirected root p))), rewired-free (g .net) root p, rewired-size (g .net) root p);
   }
 
-  rewired-well-formed : WellFormed g → WellFormed (rewired g root p)
-  rewired-well-formed well = record {
-    lawful = rewired-lawful;
-    inputs-few = unfold rewired in rw (rewired-free (g .net) root p) (well .inputs-few);
-    outputs-few = unfold rewired in rw (length-map (sinks g) (redirected root p)) (well .outputs-few);
-    gates-few = unfold rewired in rw (rewired-size (g .net) root p) (well .gates-few);
+module _ (g : Graph) (ok : WellFormed g) (root : ℕ) (gate : IsGate (g .net) root) (w : Leaves) (p : Proposal) (rule : Allowed (g .net) root w p) where
+  rewired-well-formed : WellFormed (rewired g root p)
+  rewired-well-formed = record {
+    lawful = rewired-lawful g (ok .lawful) root gate w p rule;
+    inputs-few = unfold rewired in rw (rewired-free (g .net) root p) (ok .inputs-few);
+    outputs-few = unfold rewired in rw (length-map (sinks g) (redirected root p)) (ok .outputs-few);
+    gates-few = unfold rewired in rw (rewired-size (g .net) root p) (ok .gates-few);
   }
 
   -- so the order is never lost
-  pub finished-well-formed : WellFormed g → WellFormed (finished g root p)
+  pub finished-well-formed : WellFormed (finished g root p)
   unfolding finished
-  finished-well-formed well = dropped-well-formed (rewired g root p) rewired-lawful (rewired-well-formed well)
+  finished-well-formed = dropped-well-formed (rewired g root p) rewired-well-formed

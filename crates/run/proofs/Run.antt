@@ -46,7 +46,7 @@ module _ (g h : Graph) (ready : Ready g) (s : Step g h) where
 
   finished-ready : Ready (finished g (s .root) (proposalOf (s .best)))
   finished-ready = record {
-    well-formed = finished-well-formed g lawful (s .root) (s .is-gate) (picked (g .net) (s .root)) (proposalOf (s .best)) (fits .rule) (ready .well-formed);
+    well-formed = finished-well-formed g (ready .well-formed) (s .root) (s .is-gate) (picked (g .net) (s .root)) (proposalOf (s .best)) (fits .rule);
     all-reached = unfold finished in
         dropped-all-reached (rewired g (s .root) (proposalOf (s .best)))
         (rewired-lawful g lawful (s .root) (s .is-gate) (picked (g .net) (s .root)) (proposalOf (s .best)) (fits .rule));
@@ -98,7 +98,7 @@ steps-from (suc n) g made r b = go (step g) refl (λ h. steps-from n h (suc made
         (suc (t .0), goes-on s (t .1), omega (arith, t .2))
 
 dropped-ready : (g : Graph) → WellFormed g → Ready (dropped g)
-dropped-ready g w = record { well-formed = dropped-well-formed g (w .lawful) w; all-reached = dropped-all-reached g (w .lawful) }
+dropped-ready g w = record { well-formed = dropped-well-formed g w; all-reached = dropped-all-reached g (w .lawful) }
 
 counted-all : (g : Graph) (e : End) → Counted g 0 e → Steps g (e .made) (e .graph)
 counted-all g e c = let q : c .0 ≡ e .made = omega (arith, c .2) in subst (λ (k : ℕ). Steps g k (e .graph)) q (c .1)

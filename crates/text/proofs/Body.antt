@@ -18,7 +18,7 @@ use Rattle.text.specs.States.{aag, inputLines, outputLines, gateLines, t
 use Rattle.text.specs.Reading.{Header, headerOf, Needed, inputNeeded, outputNeeded, gateNeeded, linesNeeded, gateWords, graphRead}
 use Rattle.text.proofs.Lines.{lines-decode}
 use Rattle.graph.proofs.Gather.{gather-same, gather-is}
-use Rattle.text.proofs.Gathered.{listed, listed-is, flatMap-append, flatMap-listed, by-part, row, length-row, row-first, row-second, row-third}
+use Rattle.text.proofs.Gathered.{singles, singles-are, flatMap-append, flatMap-singles, by-part, row, length-row, row-first, row-second, row-third}
 
 -- ---- the numbers of a text
 
@@ -55,11 +55,11 @@ module _ (g : Graph) (s : ℕ → Bool) where
   lines-are : flatMap line linesOf ≡ inputLines (g .net) ++ outputLines (g .outputs) ++ gateLines (g .net) s
   unfolding inputLines outputLines gateLines
   lines-are =
-      flatMap-append line (listed inputLine (g .net .inputs) ++ listed outputLine (length (g .outputs))) (listed gateAt (size (g .net)))
+      flatMap-append line (singles inputLine (g .net .inputs) ++ singles outputLine (length (g .outputs))) (singles gateAt (size (g .net)))
       ∙ ap₂ (λ (x y : List ℕ). x ++ y)
-      (flatMap-append line (listed inputLine (g .net .inputs)) (listed outputLine (length (g .outputs)))
-      ∙ ap₂ (λ (x y : List ℕ). x ++ y) (flatMap-listed line inputLine (g .net .inputs)) (flatMap-listed line outputLine (length (g .outputs))))
-      (flatMap-listed line gateAt (size (g .net)))
+      (flatMap-append line (singles inputLine (g .net .inputs)) (singles outputLine (length (g .outputs)))
+      ∙ ap₂ (λ (x y : List ℕ). x ++ y) (flatMap-singles line inputLine (g .net .inputs)) (flatMap-singles line outputLine (length (g .outputs))))
+      (flatMap-singles line gateAt (size (g .net)))
 
 pub text-is : (g : Graph) (s : ℕ → Bool) (rest : List ℕ) → textWith g s rest ≡ aag ++ (line (counts g) ++ (flatMap line (linesOf g s) ++ rest))
 unfolding textWith
@@ -156,13 +156,13 @@ module _ (a b c : ℕ) (nss : List (List ℕ)) (q : length nss ≡ a + b + c) wh
   gates-read : flatMap gateWords (drop (a + b) nss) ≡ gather (λ k. gateWords (getD nss (a + b + k) [])) c
   gates-read =
       let gs = drop (a + b) nss in
-      ap (flatMap gateWords) (listed-is gs c [] (length-drop (a + b) nss ∙ omega arith))
-      ∙ flatMap-listed gateWords (λ k. getD gs k []) c
+      ap (flatMap gateWords) (singles-are gs c [] (length-drop (a + b) nss ∙ omega arith))
+      ∙ flatMap-singles gateWords (λ k. getD gs k []) c
       ∙ gather-same _ _ c (λ k l. ap gateWords (getD-drop (a + b) nss k []))
 
-  outputs-read : map (λ ns. getD ns 0 0) (take b (drop a nss)) ≡ listed (λ j. getD (getD nss (a + j) []) 0 0) b
+  outputs-read : map (λ ns. getD ns 0 0) (take b (drop a nss)) ≡ singles (λ j. getD (getD nss (a + j) []) 0 0) b
   outputs-read =
-      listed-is (map (λ ns. getD ns 0 0) (take b (drop a nss))) b 0
+      singles-are (map (λ ns. getD ns 0 0) (take b (drop a nss))) b 0
       (length-map (take b (drop a nss)) (λ ns. getD ns 0 0) ∙ length-take b (drop a nss) ∙ omega (arith, length-drop a nss))
       ∙ gather-same _ _ b (λ j l. ap (λ (x : ℕ). x ∷ [])
       (List·getD-map (λ ns. getD ns 0 0) (take b (drop a nss)) j []
@@ -170,7 +170,7 @@ module _ (a b c : ℕ) (nss : List (List ℕ)) (q : length nss ≡ a + b + c) wh
 
 -- what stands in the lines, place by place
 pub graph-read-is : (h : Header) (nss : List (List ℕ)) → length nss ≡ h .inputs + h .outputs + h .gates
-    → graphRead h nss ≡ graphOf (h .inputs) (gather (λ k. gateWords (getD nss (h .inputs + h .outputs + k) [])) (h .gates)) (listed (λ j. getD (getD nss (h .inputs + j) []) 0 0) (h .outputs))
+    → graphRead h nss ≡ graphOf (h .inputs) (gather (λ k. gateWords (getD nss (h .inputs + h .outputs + k) [])) (h .gates)) (singles (λ j. getD (getD nss (h .inputs + j) []) 0 0) (h .outputs))
 unfolding graphRead
 graph-read-is h nss q = ap₂ (graphOf (h .inputs)) (gates-read (h .inputs) (h .outputs) (h .gates) nss q) (outputs-read (h .inputs) (h .outputs) (h .gates) nss q)
 
@@ -201,10 +201,10 @@ module _ (g : Graph) (s : ℕ → Bool) (w : Lawful g) where
       (λ k l. ap gateWords (gate-line-at g s k l) ∙ gate-words (g .net) (suc (free (g .net) + k)) (s k) (w .ordered _ (record { above = omega arith; within = omega arith })))
       ∙ sym (gather-is 2 _ (λ k. refl) (g .net .gates) (size (g .net)) 0 (omega (arith, w .even)) (λ k i l. words-at (g .net) k i))
 
-  outputs-back : listed (λ j. getD (getD (linesOf g s) (g .net .inputs + j) []) 0 0) (length (g .outputs)) ≡ g .outputs
+  outputs-back : singles (λ j. getD (getD (linesOf g s) (g .net .inputs + j) []) 0 0) (length (g .outputs)) ≡ g .outputs
   outputs-back =
       gather-same _ _ (length (g .outputs)) (λ j l. ap (λ (ns : List ℕ). getD ns 0 0 ∷ []) (output-line-at g s j l))
-      ∙ sym (listed-is (g .outputs) (length (g .outputs)) 0 refl)
+      ∙ sym (singles-are (g .outputs) (length (g .outputs)) 0 refl)
 
   pub graph-of-lines : graphRead (headerOf (counts g)) (linesOf g s) ≡ g
   graph-of-lines =

@@ -65,7 +65,7 @@ module _ (need : Needed) (needs : List Needed) (t : List ℕ) where
           (misshapen (λ ns rest s. Option·none-ne-some (front ns rest) (sym q ∙ line-of-iff (need .numbers) t ns rest .1 s)))
       go (some x) q = by-rule (x .got) (x .rest) q (need .rule (x .got)) refl
 
-pub lines-wrong : (needs : List Needed) (t : List ℕ) (r : Refusal) → readLines needs t ≡ wrong r → FirstWrong needs t r
+lines-wrong : (needs : List Needed) (t : List ℕ) (r : Refusal) → readLines needs t ≡ wrong r → FirstWrong needs t r
 unfolding readLines
 lines-wrong [] t r e = go (skipped t) refl e
   where
@@ -81,7 +81,7 @@ no-line n t h = go (lineOf n t) refl
     go none e = e
     go (some x) e = absurd (h (x .got) (x .rest) (line-of-iff n t (x .got) (x .rest) .0 e))
 
-pub wrong-lines : {needs : List Needed} {t : List ℕ} {r : Refusal} → FirstWrong needs t r → readLines needs t ≡ wrong r
+wrong-lines : {needs : List Needed} {t : List ℕ} {r : Refusal} → FirstWrong needs t r → readLines needs t ≡ wrong r
 unfolding readLines withLine
 wrong-lines (bad-rest e) = rw e
 wrong-lines (misshapen {need} {needs} {t} h) = at-misshapen need needs t (no-line (need .numbers) t h)

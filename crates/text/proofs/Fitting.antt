@@ -13,7 +13,7 @@ use Rattle.graph.specs.Graph.{Graph, graphOf, size, first, second, IsGate, Lawf
 use Rattle.graph.proofs.Lists.{and-left, and-right}
 use Rattle.text.specs.Reading.{Header, headerOf, Needed, inputNeeded, outputNeeded, gateNeeded, linesNeeded, gateWords, graphRead}
 use Rattle.graph.proofs.Gather.{length-gather, getD-gather}
-use Rattle.text.proofs.Gathered.{listed, length-listed, getD-listed, listed-is, by-part, row, length-row, row-first, row-second, row-third, row-is}
+use Rattle.text.proofs.Gathered.{singles, length-singles, getD-singles, singles-are, by-part, row, length-row, row-first, row-second, row-third, row-is}
 use Rattle.text.proofs.Body.{counts, gateNumbers, linesOf, Kept, noNeed, Fits, lines-fit, graph-read-is, first-at, second-at}
 
 -- ---- one line
@@ -21,11 +21,11 @@ use Rattle.text.proofs.Body.{counts, gateNumbers, linesOf, Kept, noNeed
 module _ (ns : List ℕ) where
   one-number : length ns ≡ 1 → ns ≡ getD ns 0 0 ∷ []
   unfolding gather
-  one-number q = listed-is ns 1 0 q
+  one-number q = singles-are ns 1 0 q
 
   three-numbers : length ns ≡ 3 → ns ≡ getD ns 0 0 ∷ getD ns 1 0 ∷ getD ns 2 0 ∷ []
   unfolding gather
-  three-numbers q = listed-is ns 3 0 q
+  three-numbers q = singles-are ns 3 0 q
 
   input-kept : (k : ℕ) → Kept (inputNeeded k) ns → ns ≡ 2 * k ∷ []
   unfolding inputNeeded
@@ -98,7 +98,7 @@ module _ (h : Header) (nss : List (List ℕ)) (r : Rows h nss) where
   outputAt j = getD (getD nss (h .inputs + j) []) 0 0
 
   abbrev read : Graph
-  read = graphOf (h .inputs) (gather (λ k. gateWords (gateAt k)) (h .gates)) (listed outputAt (h .outputs))
+  read = graphOf (h .inputs) (gather (λ k. gateWords (gateAt k)) (h .gates)) (singles outputAt (h .outputs))
 
   -- the smaller right side stands first
   abbrev swap : ℕ → Bool
@@ -112,7 +112,7 @@ module _ (h : Header) (nss : List (List ℕ)) (r : Rows h nss) where
   size-read = omega (arith, words-count)
 
   outputs-count : length (read .outputs) ≡ h .outputs
-  outputs-count = length-listed outputAt (h .outputs)
+  outputs-count = length-singles outputAt (h .outputs)
 
   module _ (k : ℕ) (l : k < h .gates) where
     first-read : first (read .net) (suc (h .inputs + k)) ≡ max (getD (gateAt k) 1 0) (getD (gateAt k) 2 0)
@@ -152,7 +152,7 @@ module _ (h : Header) (nss : List (List ℕ)) (r : Rows h nss) where
       (λ k l. input-kept (getD nss k []) (suc k) (r .input k l))
       (λ j l.
       let m : j < h .outputs = omega (arith, outputs-count) in
-      rw (getD-listed outputAt (h .outputs) j 0 m) (output-is (getD nss (h .inputs + j) []) h (r .output j m)))
+      rw (getD-singles outputAt (h .outputs) j 0 m) (output-is (getD nss (h .inputs + j) []) h (r .output j m)))
       (λ k l. rw outputs-count (gate-read k (omega (arith, size-read))))
 
   module _ (q : h .highest ≡ h .inputs + h .gates) where
@@ -163,7 +163,7 @@ module _ (h : Header) (nss : List (List ℕ)) (r : Rows h nss) where
       below = each-gate (λ v. first (read .net) v < 2 * v) below-read;
       sinks-within = λ j l.
           let m : j < h .outputs = omega (arith, outputs-count) in
-          rw (getD-listed outputAt (h .outputs) j 0 m) (omega (arith, output-kept (getD nss (h .inputs + j) []) h (r .output j m), size-read));
+          rw (getD-singles outputAt (h .outputs) j 0 m) (omega (arith, output-kept (getD nss (h .inputs + j) []) h (r .output j m), size-read));
     }
 
 -- what is read from lines that fit, where the header's counts add up and there are no latches

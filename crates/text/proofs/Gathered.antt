@@ -13,19 +13,19 @@ use Rattle.graph.proofs.Gather.{length-gather, getD-gather}
 
 module _ {A : Type 0} where
   -- f 0, f 1, .. f (n - 1)
-  abbrev pub listed : (ℕ → A) → ℕ → List A
-  listed f n = gather (λ k. f k ∷ []) n
+  abbrev pub singles : (ℕ → A) → ℕ → List A
+  singles f n = gather (λ k. f k ∷ []) n
 
-  pub length-listed : (f : ℕ → A) (n : ℕ) → length (listed f n) ≡ n
-  length-listed f n = length-gather 1 (λ k. f k ∷ []) (λ k. refl) n ∙ omega arith
+  pub length-singles : (f : ℕ → A) (n : ℕ) → length (singles f n) ≡ n
+  length-singles f n = length-gather 1 (λ k. f k ∷ []) (λ k. refl) n ∙ omega arith
 
-  pub getD-listed : (f : ℕ → A) (n k : ℕ) (d : A) → k < n → getD (listed f n) k d ≡ f k
-  getD-listed f n k d h =
+  pub getD-singles : (f : ℕ → A) (n k : ℕ) (d : A) → k < n → getD (singles f n) k d ≡ f k
+  getD-singles f n k d h =
       let q : k ≡ 1 * k + 0 = omega arith in
-      ap (λ (i : ℕ). getD (listed f n) i d) q ∙ getD-gather 1 (λ k. f k ∷ []) (λ k. refl) n k 0 d h (omega arith)
+      ap (λ (i : ℕ). getD (singles f n) i d) q ∙ getD-gather 1 (λ k. f k ∷ []) (λ k. refl) n k 0 d h (omega arith)
 
-  pub listed-is : (xs : List A) (n : ℕ) (d : A) → length xs ≡ n → xs ≡ listed (λ k. getD xs k d) n
-  listed-is xs n d q = ext-getD d xs (listed (λ k. getD xs k d) n) (q ∙ sym (length-listed (λ k. getD xs k d) n)) (λ i h. sym (getD-listed (λ k. getD xs k d) n i d (omega arith)))
+  pub singles-are : (xs : List A) (n : ℕ) (d : A) → length xs ≡ n → xs ≡ singles (λ k. getD xs k d) n
+  singles-are xs n d q = ext-getD d xs (singles (λ k. getD xs k d) n) (q ∙ sym (length-singles (λ k. getD xs k d) n)) (λ i h. sym (getD-singles (λ k. getD xs k d) n i d (omega arith)))
 
 -- what a function makes of each, joined
 module _ {A B : Type 0} (F : A → List B) where
@@ -34,10 +34,10 @@ module _ {A B : Type 0} (F : A → List B) where
   flatMap-append [] ys = refl
   flatMap-append (x ∷ xs) ys = ap (λ (zs : List B). F x ++ zs) (flatMap-append xs ys) ∙ sym (append-assoc (F x) (flatMap F xs) (flatMap F ys))
 
-  pub flatMap-listed : (f : ℕ → A) (n : ℕ) → flatMap F (listed f n) ≡ gather (λ k. F (f k)) n
+  pub flatMap-singles : (f : ℕ → A) (n : ℕ) → flatMap F (singles f n) ≡ gather (λ k. F (f k)) n
   unfolding flatMap gather
-  flatMap-listed f zero = refl
-  flatMap-listed f (suc n) = flatMap-append (listed f n) (f n ∷ []) ∙ ap₂ (λ (x y : List B). x ++ y) (flatMap-listed f n) (append-nil (F (f n)))
+  flatMap-singles f zero = refl
+  flatMap-singles f (suc n) = flatMap-append (singles f n) (f n ∷ []) ∙ ap₂ (λ (x y : List B). x ++ y) (flatMap-singles f n) (append-nil (F (f n)))
 
 -- ---- three in a row
 
@@ -54,31 +54,31 @@ by-part P a b c p q r j h = ⊎-elim
 
 module _ {A : Type 0} (f g h : ℕ → A) (a b c : ℕ) where
   abbrev pub row : List A
-  row = listed f a ++ listed g b ++ listed h c
+  row = singles f a ++ singles g b ++ singles h c
 
-  length-two : length (listed f a ++ listed g b) ≡ a + b
-  length-two = length-append (listed f a) (listed g b) ∙ ap₂ (λ (m n : ℕ). m + n) (length-listed f a) (length-listed g b)
+  length-two : length (singles f a ++ singles g b) ≡ a + b
+  length-two = length-append (singles f a) (singles g b) ∙ ap₂ (λ (m n : ℕ). m + n) (length-singles f a) (length-singles g b)
 
   pub length-row : length row ≡ a + b + c
-  length-row = length-append (listed f a ++ listed g b) (listed h c) ∙ ap₂ (λ (m n : ℕ). m + n) length-two (length-listed h c)
+  length-row = length-append (singles f a ++ singles g b) (singles h c) ∙ ap₂ (λ (m n : ℕ). m + n) length-two (length-singles h c)
 
   pub row-first : (k : ℕ) (d : A) → k < a → getD row k d ≡ f k
   row-first k d l =
-      rw (List·getD-append (listed f a ++ listed g b) (listed h c) d k (omega (arith, length-two)), List·getD-append (listed f a) (listed g b) d k (omega (arith, length-listed f a)))
-      (getD-listed f a k d l)
+      rw (List·getD-append (singles f a ++ singles g b) (singles h c) d k (omega (arith, length-two)), List·getD-append (singles f a) (singles g b) d k (omega (arith, length-singles f a)))
+      (getD-singles f a k d l)
 
   pub row-second : (k : ℕ) (d : A) → k < b → getD row (a + k) d ≡ g k
   row-second k d l =
-      List·getD-append (listed f a ++ listed g b) (listed h c) d (a + k) (omega (arith, length-two))
-      ∙ ap (λ (n : ℕ). getD (listed f a ++ listed g b) (n + k) d) (sym (length-listed f a))
-      ∙ getD-append-add (listed f a) (listed g b) k d
-      ∙ getD-listed g b k d l
+      List·getD-append (singles f a ++ singles g b) (singles h c) d (a + k) (omega (arith, length-two))
+      ∙ ap (λ (n : ℕ). getD (singles f a ++ singles g b) (n + k) d) (sym (length-singles f a))
+      ∙ getD-append-add (singles f a) (singles g b) k d
+      ∙ getD-singles g b k d l
 
   pub row-third : (k : ℕ) (d : A) → k < c → getD row (a + b + k) d ≡ h k
   row-third k d l =
       ap (λ (n : ℕ). getD row (n + k) d) (sym length-two)
-      ∙ getD-append-add (listed f a ++ listed g b) (listed h c) k d
-      ∙ getD-listed h c k d l
+      ∙ getD-append-add (singles f a ++ singles g b) (singles h c) k d
+      ∙ getD-singles h c k d l
 
   pub row-is : (xs : List A) (d : A) → length xs ≡ a + b + c → ((k : ℕ) → k < a → getD xs k d ≡ f k) → ((k : ℕ) → k < b → getD xs (a + k) d ≡ g k)
       → ((k : ℕ) → k < c → getD xs (a + b + k) d ≡ h k) → xs ≡ row

@@ -125,12 +125,12 @@ header-states : (t ns rest : List ℕ) → headerLine t ≡ some (front ns rest)
 unfolding headerLine
 header-states t ns rest e =
     both-some (after aag t) (lineOf 5) (front ns rest) e λ u eu e₁.
-    record { numbers = u; is = after-states aag t u eu; shaped = line-states 5 u ns rest e₁ }
+    record { after-aag = u; is = after-states aag t u eu; shaped = line-states 5 u ns rest e₁ }
 
 header-of : (t ns rest : List ℕ) → Headed t ns rest → headerLine t ≡ some (front ns rest)
 unfolding headerLine
 header-of t ns rest h =
-    ap (λ (o : Option (List ℕ)). o >>= lineOf 5) (ap (after aag) (h .is) ∙ after-of aag (h .numbers)) ∙ line-of 5 (h .numbers) ns rest (h .shaped)
+    ap (λ (o : Option (List ℕ)). o >>= lineOf 5) (ap (after aag) (h .is) ∙ after-of aag (h .after-aag)) ∙ line-of 5 (h .after-aag) ns rest (h .shaped)
 
 pub header-line-iff : (t ns rest : List ℕ) → (headerLine t ≡ some (front ns rest)) ↔ Headed t ns rest
 header-line-iff t ns rest = (header-states t ns rest, header-of t ns rest)

@@ -21,7 +21,7 @@ use Rattle.text.specs.States.{aag, States, textWith}
 use Rattle.text.specs.Reading.{Header, headerOf, headerLine, mostBytes, headerRefusals, linesNeeded, Lines, wrong, right, readLines, graphRead, Reading, refuses, yields, readBody, reading}
 use Rattle.text.specs.Refusals.{Headed}
 use Rattle.text.proofs.Lines.{header-line-iff}
-use Rattle.text.proofs.Gathered.{listed-is}
+use Rattle.text.proofs.Gathered.{singles-are}
 use Rattle.text.proofs.Body.{counts, linesOf, text-is, lines-fit, graph-of-lines}
 use Rattle.text.proofs.Fitting.{swapsRead, lines-of-read, read-lawful, read-counts, counts-small, numbers-small}
 use Rattle.text.proofs.Spelling.{Spelled, read-lines-iff}
@@ -34,7 +34,7 @@ pub record Stated (t : List ℕ) (g : Graph) : Type 0 where
 -- ---- the first line
 
 -- a header that is not refused
-pub record Allowed (t : List ℕ) (h : Header) : Type 0 where
+pub record WithinLimits (t : List ℕ) (h : Header) : Type 0 where
   pub inputs-few : h .inputs ≤ mostInputs
   pub outputs-few : h .outputs ≤ mostOutputs
   pub gates-few : h .gates ≤ mostGates
@@ -51,9 +51,9 @@ not-given true r o e = absurd (Option·some-ne-none r e)
 not-given false r o e = (refl, e)
 
 module _ (t : List ℕ) (h : Header) where
-  header-allowed : firstRefusal (headerRefusals t h) ≡ none → Allowed t h
+  header-within : firstRefusal (headerRefusals t h) ≡ none → WithinLimits t h
   unfolding headerRefusals firstRefusal
-  header-allowed e =
+  header-within e =
       let i = ltb mostInputs (h .inputs) in
       let o = ltb mostOutputs (h .outputs) in
       let g = ltb mostGates (h .gates) in
@@ -72,7 +72,7 @@ module _ (t : List ℕ) (h : Header) where
         adds-up = eqb-true _ _ (not-false (eqb (h .highest) (h .inputs + h .gates)) counts);
       }
 
-  allowed-header : Allowed t h → firstRefusal (headerRefusals t h) ≡ none
+  allowed-header : WithinLimits t h → firstRefusal (headerRefusals t h) ≡ none
   unfolding headerRefusals firstRefusal
   allowed-header a =
       rw (
@@ -84,8 +84,8 @@ module _ (t : List ℕ) (h : Header) where
         eq-eqb (h .highest) (h .inputs + h .gates) (a .adds-up),
       )
 
-  pub header-allowed-iff : (firstRefusal (headerRefusals t h) ≡ none) ↔ Allowed t h
-  header-allowed-iff = (header-allowed, allowed-header)
+  pub header-within-iff : (firstRefusal (headerRefusals t h) ≡ none) ↔ WithinLimits t h
+  header-within-iff = (header-within, allowed-header)
 
 -- ---- what is read is stated
 
@@ -118,13 +118,13 @@ module _ {P : Type 0} (g : Graph) where
   lines-yield (wrong r) f e k = refuses-not-yields e
   lines-yield (right nss) f e k = k nss refl (yields-inj e)
 
-module _ (t ns rest : List ℕ) (nss : List (List ℕ)) (d : Headed t ns rest) (a : Allowed t (headerOf ns)) (p : Spelled (linesNeeded (headerOf ns)) rest nss) where
+module _ (t ns rest : List ℕ) (nss : List (List ℕ)) (d : Headed t ns rest) (a : WithinLimits t (headerOf ns)) (p : Spelled (linesNeeded (headerOf ns)) rest nss) where
   abbrev graph : Graph
   graph = graphRead (headerOf ns) nss
 
   five-numbers : ns ≡ getD ns 0 0 ∷ getD ns 1 0 ∷ getD ns 2 0 ∷ getD ns 3 0 ∷ getD ns 4 0 ∷ []
   unfolding gather
-  five-numbers = listed-is ns 5 0 (d .shaped .count)
+  five-numbers = singles-are ns 5 0 (d .shaped .count)
 
   counts-are : counts graph ≡ ns
   counts-are = read-counts (headerOf ns) nss (p .fits) (a .adds-up) (a .no-latches) ∙ sym five-numbers
@@ -160,7 +160,7 @@ reading-stated t g e =
     limits-yield g (firstRefusal (headerRefusals t (headerOf (x .got)))) (readBody (headerOf (x .got)) (x .rest)) e₁ λ el e₂.
     lines-yield g (readLines (linesNeeded (headerOf (x .got))) (x .rest)) (graphRead (headerOf (x .got))) e₂ λ nss en e₃.
     subst (Stated t) e₃
-    (graph-stated t (x .got) (x .rest) nss (header-line-iff t (x .got) (x .rest) .0 ex) (header-allowed-iff t (headerOf (x .got)) .0 el)
+    (graph-stated t (x .got) (x .rest) nss (header-line-iff t (x .got) (x .rest) .0 ex) (header-within-iff t (headerOf (x .got)) .0 el)
     (read-lines-iff (linesNeeded (headerOf (x .got))) (x .rest) nss .0 en))
 
 -- ---- what is stated is read
@@ -171,12 +171,12 @@ module _ (t : List ℕ) (g : Graph) (s : Stated t g) where
 
   stated-headed : Headed t (counts g) body
   stated-headed = record {
-    numbers = line (counts g) ++ body;
+    after-aag = line (counts g) ++ body;
     is = s .states .is ∙ text-is g (s .states .swaps) (s .states .rest);
     shaped = record { count = refl; small = λ j l. omega (arith, counts-small g (s .well-formed) j); is = refl };
   }
 
-  stated-allowed : Allowed t (headerOf (counts g))
+  stated-allowed : WithinLimits t (headerOf (counts g))
   stated-allowed = record {
     inputs-few = s .well-formed .inputs-few;
     outputs-few = s .well-formed .outputs-few;
@@ -200,7 +200,7 @@ module _ (t : List ℕ) (g : Graph) (s : Stated t g) where
   stated-reading =
       rw (
         header-line-iff t (counts g) body .1 stated-headed,
-        header-allowed-iff t (headerOf (counts g)) .1 stated-allowed,
+        header-within-iff t (headerOf (counts g)) .1 stated-allowed,
         read-lines-iff (linesNeeded (headerOf (counts g))) body (linesOf g (s .states .swaps)) .1 stated-spelled,
         reading,
         readBody,

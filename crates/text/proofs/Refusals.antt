@@ -27,7 +27,7 @@ use Rattle.text.specs.Calls.{withRoom, readEffect, readOutcome, writeRef
 use Rattle.text.proofs.Lines.{header-line-iff}
 use Rattle.text.proofs.States.{states-one}
 use Rattle.text.proofs.Reading.{reading-iff}
-use Rattle.text.proofs.FirstWrong.{wrong-injective, right-not-wrong, lines-wrong, wrong-lines, wrong-number}
+use Rattle.text.proofs.FirstWrong.{wrong-injective, right-not-wrong, first-wrong-iff, wrong-number}
 
 -- ---- reading
 
@@ -147,7 +147,7 @@ module _ (t : List ℕ) (b : Buffers) (ns rest : List ℕ) (e : headerLine t ≡
       where
         go : {q : Refusal} → ReadGiven t b q → numberOf q < numberOf r → ¬ Case q
         go {q} d l (early k n) = c q (d, leb-true (numberOf q) 4 k)
-        go {q} d l (by-line v) = let same : numberOf q ≡ numberOf r = ap numberOf (wrong-injective (sym (wrong-lines v) ∙ wrong-lines w)) in omega arith
+        go {q} d l (by-line v) = let same : numberOf q ≡ numberOf r = ap numberOf (wrong-injective (sym (first-wrong-iff needs rest q .1 v) ∙ first-wrong-iff needs rest r .1 w)) in omega arith
         go d l (by-room h k) = omega (arith, wrong-number w)
 
     -- and where all lines are right, only room can lack
@@ -161,7 +161,7 @@ module _ (t : List ℕ) (b : Buffers) (ns rest : List ℕ) (e : headerLine t ≡
       only-room : {q : Refusal} → ReadGiven t b q → Case q → (q ≡ NoRoom) × NoRoomFor graph b
       unfolding Early
       only-room {q} d (early k n) = absurd (c q (d, leb-true (numberOf q) 4 k))
-      only-room d (by-line w) = absurd (right-not-wrong (sym f ∙ wrong-lines w))
+      only-room d (by-line w) = absurd (right-not-wrong (sym f ∙ first-wrong-iff needs rest _ .1 w))
       only-room d (by-room {g} h k) = (refl, subst (λ (g : Graph). NoRoomFor g b) (states-one t g graph h graph-stated) k)
 
       room-settles : Settles (ReadGiven t b) (refusalOf (withRoom (yields graph) b))
@@ -180,7 +180,7 @@ module _ (t : List ℕ) (b : Buffers) (ns rest : List ℕ) (e : headerLine t ≡
     body-settles = go (readLines needs rest) refl
       where
         go : (x : Lines) → readLines needs rest ≡ x → Settles (ReadGiven t b) (refusalOf (withRoom (readBody counts rest) b))
-        go (wrong r) f = rw (body-wrong r f) (gives (line-lowest r (lines-wrong needs rest r f)))
+        go (wrong r) f = rw (body-wrong r f) (gives (line-lowest r (first-wrong-iff needs rest r .0 f)))
         go (right nss) f = rw (body-right nss f) (room-settles nss f)
 
   headed-settles : Settles (ReadGiven t b) (refusalOf (withRoom (reading t) b))

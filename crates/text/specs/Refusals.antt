@@ -22,9 +22,9 @@ pub record Shaped (n : ℕ) (t ns rest : List ℕ) : Type 0 where
 
 -- the text t starts with a well-shaped first line
 pub record Headed (t ns rest : List ℕ) : Type 0 where
-  pub numbers : List ℕ
-  pub is : t ≡ aag ++ numbers
-  pub shaped : Shaped 5 numbers ns rest
+  pub after-aag : List ℕ
+  pub is : t ≡ aag ++ after-aag
+  pub shaped : Shaped 5 after-aag ns rest
 
 -- of the lines needed, the first that is not right is the refusal's; the rest of the text counts as the last line
 pub data FirstWrong : List Needed → List ℕ → Refusal → Type 0 where
