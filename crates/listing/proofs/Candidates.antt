@@ -31,16 +31,16 @@ ands root = gather (andsFrom root) (2 * root)
 -- ---- who is among them
 
 module _ (root : ℕ) where
-  literal-in : (l : ℕ) → l < 2 * root → literal l ∈ candidates root
-  unfolding candidates
-  literal-in l h = in-left (ands root) (in-gather (λ l. literal l ∷ []) (2 * root) l (literal l) h (here refl))
-
   and-in : (a b c : ℕ) → a < 2 * root → b < 2 * root → c < 2 → andGate a b c ∈ candidates root
   unfolding candidates
   and-in a b c h k l =
       let p = andGate a b c in
       let over = in-gather (λ c. andGate a b c ∷ []) 2 c p l (here refl) in
       in-right (literals root) (in-gather (andsFrom root) (2 * root) a p h (in-gather (andsOver a) (2 * root) b p k over))
+
+  literal-in : (l : ℕ) → l < 2 * root → literal l ∈ candidates root
+  unfolding candidates
+  literal-in l h = in-left (ands root) (in-gather (λ l. literal l ∷ []) (2 * root) l (literal l) h (here refl))
 
 same-proposal : (p q : Proposal) → p .kind ≡ q .kind → p .first .0 ≡ q .first .0 → p .second .0 ≡ q .second .0 → p .turned ≡ q .turned → p ≡ q
 same-proposal p q e f s t = λ i. record { kind = e i; first = record { 0 = f i }; second = record { 0 = s i }; turned = t i }

@@ -6,13 +6,13 @@ use mathlib.Core.List.{List, [], _∷_, _++_, append-assoc, map, flatMap}
 use Prim.Native.Nat.{ℕ, zero, suc, _+_, _-_, _*_, _≤_, _<_, suc-le-suc}
 use native.Mathlib.Nat.{suc-inj, suc-ne-zero, le-of-suc-le-suc, zero-lt-suc}
 use native.Mathlib.Omega.{arith}
-use borrow.Author.Tests.{le-leb, lt-ltb, eq-eqb}
-use lib.Dec.{ltb}
+use borrow.Author.Tests.{ltb-true, le-leb, lt-ltb, eq-eqb}
+use lib.Dec.{ltb, eqb}
 use lib.ListN.{length, getD, take, drop, length-take, length-drop, length-map, List·getD-map}
 use lib.Seq.{getD-take, getD-drop}
 use Rattle.graph.specs.Lists.{gather}
 use Rattle.graph.specs.Graph.{Net, Graph, graphOf, free, size, last, first, second, IsGate, Lawful}
-use Rattle.graph.proofs.Lists.{and-both}
+use Rattle.graph.proofs.Lists.{and-left, and-right, and-both}
 use Rattle.text.specs.Line.{line}
 use Rattle.text.specs.States.{aag, inputLines, outputLines, gateLines, textWith}
 use Rattle.text.specs.Reading.{Header, headerOf, Needed, inputNeeded, outputNeeded, gateNeeded, linesNeeded, gateWords, graphRead}
@@ -127,6 +127,13 @@ module _ (f g h : ℕ → Needed) (x y z : ℕ → List ℕ) (a b c : ℕ) where
         (λ k m. rw (row-third f g h a b c k noNeed m, row-third x y z a b c k [] m) (r k m))
         j (omega (arith, length-row f g h a b c));
   }
+
+-- both right sides of a gate line are below its left side
+pub gate-sides : (ns : List ℕ) (v : ℕ) → Kept (gateNeeded v) ns → (getD ns 1 0 < 2 * v) × (getD ns 2 0 < 2 * v)
+unfolding gateNeeded
+gate-sides ns v e =
+    let r = and-right (eqb (getD ns 0 0) (2 * v)) _ (e .rule) in
+    (ltb-true _ _ (and-left (ltb (getD ns 1 0) (2 * v)) _ r), ltb-true _ _ (and-right (ltb (getD ns 1 0) (2 * v)) _ r))
 
 gate-kept : (net : Net) (v : ℕ) (s : Bool) → second net v ≤ first net v → first net v < 2 * v → Kept (gateNeeded v) (gateNumbers net v s)
 unfolding gateNeeded

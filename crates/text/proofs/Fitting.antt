@@ -10,11 +10,11 @@ use lib.Dec.{ltb, eqb}
 use lib.ListN.{length, getD}
 use Rattle.graph.specs.Lists.{gather}
 use Rattle.graph.specs.Graph.{Graph, graphOf, size, first, second, IsGate, Lawful, WellFormed}
-use Rattle.graph.proofs.Lists.{and-left, and-right}
+use Rattle.graph.proofs.Lists.{and-left}
 use Rattle.text.specs.Reading.{Header, headerOf, Needed, inputNeeded, outputNeeded, gateNeeded, linesNeeded, gateWords, graphRead}
 use Rattle.graph.proofs.Gather.{length-gather, getD-gather}
 use Rattle.text.proofs.Gathered.{singles, length-singles, getD-singles, singles-are, by-part, row, length-row, row-first, row-second, row-third, row-is}
-use Rattle.text.proofs.Body.{counts, gateNumbers, linesOf, Kept, noNeed, Fits, lines-fit, graph-read-is, first-at, second-at}
+use Rattle.text.proofs.Body.{counts, gateNumbers, linesOf, Kept, noNeed, Fits, lines-fit, graph-read-is, first-at, second-at, gate-sides}
 
 -- ---- one line
 
@@ -43,12 +43,6 @@ module _ (ns : List ℕ) where
     gate-is : ns ≡ 2 * v ∷ getD ns 1 0 ∷ getD ns 2 0 ∷ []
     unfolding gateNeeded
     gate-is = three-numbers (e .count) ∙ ap (λ (x : ℕ). x ∷ getD ns 1 0 ∷ getD ns 2 0 ∷ []) (eqb-true (getD ns 0 0) (2 * v) (and-left (eqb (getD ns 0 0) (2 * v)) _ (e .rule)))
-
-    gate-sides : (getD ns 1 0 < 2 * v) × (getD ns 2 0 < 2 * v)
-    unfolding gateNeeded
-    gate-sides =
-        let r = and-right (eqb (getD ns 0 0) (2 * v)) _ (e .rule) in
-        (ltb-true _ _ (and-left (ltb (getD ns 1 0) (2 * v)) _ r), ltb-true _ _ (and-right (ltb (getD ns 1 0) (2 * v)) _ r))
 
 -- ---- the lines of a header, by their places
 
