@@ -89,6 +89,11 @@ unfolding all
 each-snoc [] b e h = and-both _ _ h refl
 each-snoc (c ∷ bs) b e h = and-both _ _ (and-left (isDigit c) (all isDigit bs) e) (each-snoc bs b (and-right (isDigit c) (all isDigit bs) e) h)
 
+-- the first of several digits is not 0
+lead-not-zero : (b c : ℕ) (bs : List ℕ) → noLeadingZero (b ∷ c ∷ bs) ≡ true → ¬ (b ≡ digit 0)
+unfolding noLeadingZero
+lead-not-zero b c bs e = eqb-false b (digit 0) (not-true (eqb b (digit 0)) e)
+
 -- a value above 0 does not start with 0
 lead-snoc : (bs : List ℕ) (b : ℕ) → noLeadingZero bs ≡ true → 0 < valueFrom 0 bs → noLeadingZero (bs ++ (b ∷ [])) ≡ true
 unfolding noLeadingZero valueFrom
@@ -138,7 +143,7 @@ writes-decimal (b ∷ c ∷ bs) n w =
     let l = digit-least b (and-left (isDigit b) _ (w .each)) in
     let u = digit-most b (and-left (isDigit b) _ (w .each)) in
     let m : ℕ = 10 * 0 + (b - 48) in
-    let h : 0 < m = omega (arith, eqb-false b 48 (not-true (eqb b 48) (w .lead))) in
+    let h : 0 < m = omega (arith, lead-not-zero b c bs (w .lead)) in
     let q : digit m ≡ b = omega arith in
     ap (λ (x : ℕ). x ∷ c ∷ bs) (sym q)
     ∙ ap (λ (cs : List ℕ). cs ++ (c ∷ bs)) (sym (decimal-one m (omega arith)))
