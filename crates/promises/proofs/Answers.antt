@@ -1,9 +1,10 @@
 -- Demand 1: each call ends with its one value or with the one refusal that the order selects, and a refusal writes nothing.
 -- Assumes nothing.
 use mathlib.Core.Path.{_≡_}
-use mathlib.Core.List.{List}
+use mathlib.Core.List.{List, [], _∷_}
 use Prim.Native.Nat.{ℕ}
-use Rattle.graph.specs.declared.refusal.Refusal.the-variants.{OrderLost}
+use lib.ListN.{length}
+use Rattle.graph.specs.declared.refusal.Refusal.the-variants.{OrderLost, NoRoom}
 use Rattle.graph.specs.Refuse.{numberOf, Answers}
 use Rattle.graph.specs.Lent.{Buffers}
 use Rattle.graph.specs.Graph.{Graph}
@@ -19,8 +20,9 @@ use Rattle.replace.specs.declared.Proposal.{Proposal}
 use Rattle.replace.specs.Calls.{ApplyGiven, applyEffect, appliedOutcome}
 use Rattle.replace.proofs.Refusals.{apply-answers, apply-leaves, order-lost-never-given}
 use Rattle.listing.specs.declared.Candidate.{Candidate}
+use Rattle.listing.specs.Listing.{listed}
 use Rattle.listing.specs.Calls.{ListGiven, listEffect, listedOutcome}
-use Rattle.listing.proofs.Refusals.{list-answers, list-leaves}
+use Rattle.listing.proofs.Refusals.{list-answers, list-leaves, no-room-counts}
 use Rattle.run.specs.Calls.{RunBuffers, RunGiven, runEffect, ranOutcome}
 use Rattle.run.proofs.Refusals.{run-answers, run-leaves}
 use Rattle.promises.specs.Promises.{Settled}
@@ -57,8 +59,15 @@ pick-settled = pick-answers
 pub table-settled : (g : Graph) (root : ℕ) (w : Leaves) → Answers (WindowGiven g root w) ((tableOutcome (tableAnswer g root w)) .number)
 table-settled = table-answers
 
--- ---- ORDER LOST is never given
+-- ---- two refusals by name
 
+-- NO ROOM when listing also returns the record count needed
+pub no-room-tells-the-count : (g : Graph) (root : ℕ) (w : Leaves) (lent : List Candidate)
+    → (listedOutcome ((listEffect g root w lent) .answer)) .number ≡ numberOf NoRoom
+    → (listedOutcome ((listEffect g root w lent) .answer)) .values ≡ length (listed g root w) ∷ []
+no-room-tells-the-count = no-room-counts
+
+-- ORDER LOST is never given
 pub order-is-never-lost : (g : Graph) (root : ℕ) (w : Leaves) (p : Proposal) (b : Buffers)
     → ¬ ((appliedOutcome ((applyEffect g root w p b) .answer)) .number ≡ numberOf OrderLost)
 order-is-never-lost = order-lost-never-given

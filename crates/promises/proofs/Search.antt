@@ -3,18 +3,18 @@
 use mathlib.Core.Path.{_≡_}
 use mathlib.Core.Bool.{Bool, true}
 use mathlib.Core.List.{List, [], _∷_}
-use Prim.Native.Nat.{ℕ}
-use lib.ListN.{getD}
+use Prim.Native.Nat.{ℕ, _<_}
+use lib.ListN.{length, getD}
 use Rattle.graph.specs.Lists.{_∈_}
-use Rattle.graph.specs.Graph.{Net, Graph, IsGate, WellFormed}
+use Rattle.graph.specs.Graph.{Net, Graph, free, IsGate, WellFormed}
 use Rattle.graph.specs.Drop.{dropped}
 use Rattle.graph.specs.Evaluate.{valueUnder}
 use Rattle.window.specs.declared.Leaves.{Leaves}
 use Rattle.window.specs.Leaves.{leafLimit, leafList, WellSet}
 use Rattle.window.specs.Local.{Covered, covered, localAt}
-use Rattle.window.specs.LeafRule.{withFanins, ruleLeaves, picked, Follows}
+use Rattle.window.specs.LeafRule.{withFanins, expand, ruleLeaves, picked, Follows}
 use Rattle.window.proofs.Coverage.{covered-value}
-use Rattle.window.proofs.LeafRule.{rule-follows, picked-well-set, picked-cuts}
+use Rattle.window.proofs.LeafRule.{rule-follows, rule-only, picked-well-set, picked-cuts, picked-no-expansion}
 use Rattle.listing.specs.declared.Candidate.{Candidate}
 use Rattle.listing.specs.Listing.{listed, Ascending, IsTheList}
 use Rattle.listing.proofs.TheList.{listed-is, the-list}
@@ -34,6 +34,13 @@ module _ (g : Graph) (ok : WellFormed g) (root : ℕ) (gate : IsGate (g .net) ro
   -- the leaves are come to by taking the smallest expansion, ties to the highest variable, until there is none
   pub leaves-follow-the-rule : Follows leafLimit (g .net) (withFanins (g .net) root []) (ruleLeaves leafLimit (g .net) root)
   leaves-follow-the-rule = rule-follows g (ok .lawful) leafLimit root gate
+
+  pub rule-leads-to-one-set : (zs : List ℕ) → Follows leafLimit (g .net) (withFanins (g .net) root []) zs → zs ≡ ruleLeaves leafLimit (g .net) root
+  rule-leads-to-one-set = rule-only g (ok .lawful) leafLimit root gate
+
+  pub picked-leaves-cannot-be-expanded : (v : ℕ) → v ∈ leafList (picked (g .net) root) → free (g .net) < v
+      → leafLimit < length (expand (g .net) (leafList (picked (g .net) root)) v)
+  picked-leaves-cannot-be-expanded = picked-no-expansion g (ok .lawful) root gate
 
   pub picked-leaves-are-well-set : WellSet root (picked (g .net) root)
   picked-leaves-are-well-set = picked-well-set g (ok .lawful) root gate
