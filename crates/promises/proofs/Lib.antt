@@ -2,3 +2,5 @@ pub mod Bench
 pub mod Answers
 pub mod Meaning
 pub mod Search
+pub mod Stored
+pub mod Accepted

@@ -10,7 +10,7 @@ use Rattle.graph.specs.Graph.{Graph, size, IsGate, Lawful, WellFormed}
 use Rattle.graph.specs.Use.{usedGates}
 use Rattle.graph.specs.Drop.{dropped}
 use Rattle.graph.specs.Evaluate.{outputsUnder}
-use Rattle.graph.proofs.Drop.{AllReached, dropped-free, all-used, dropped-well-formed, dropped-all-reached}
+use Rattle.graph.proofs.Drop.{AllReached, dropped-free, dropped-size, used-at-most-size, all-used, dropped-well-formed, dropped-all-reached}
 use Rattle.graph.proofs.DropKeeps.{dropped-keeps-outputs}
 use Rattle.window.specs.LeafRule.{picked}
 use Rattle.window.proofs.Coverage.{covered-iff}
@@ -118,6 +118,10 @@ steps-ready : {g e : Graph} {n : ℕ} → Steps g n e → Ready g → Ready e
 steps-ready (ends h) r = r
 steps-ready (goes-on {g} {h} s t) r = steps-ready t (step-ready g h r s)
 
+steps-no-larger : {g e : Graph} {n : ℕ} → Steps g n e → Ready g → size (e .net) ≤ size (g .net)
+steps-no-larger (ends {g} h) r = le-refl (size (g .net))
+steps-no-larger (goes-on {g} {h} s t) r = omega (arith, steps-no-larger t (step-ready g h r s), step-shrinks g h r s)
+
 steps-keep-inputs : {g e : Graph} {n : ℕ} → Steps g n e → Ready g → e .net .inputs ≡ g .net .inputs
 steps-keep-inputs (ends h) r = refl
 steps-keep-inputs (goes-on {g} {h} s t) r = steps-keep-inputs t (step-ready g h r s) ∙ step-keeps-inputs g h r s
@@ -138,6 +142,9 @@ module _ (g : Graph) (w : WellFormed g) where
 
   pub run-all-reached : AllReached (run g .graph)
   run-all-reached = run-ready .all-reached
+
+  pub run-no-larger : size (run g .graph .net) ≤ size (g .net)
+  run-no-larger = omega (arith, steps-no-larger (run-steps g w) (dropped-ready g w), dropped-size g, used-at-most-size g)
 
   pub run-keeps-inputs : run g .graph .net .inputs ≡ g .net .inputs
   run-keeps-inputs = steps-keep-inputs (run-steps g w) (dropped-ready g w) ∙ dropped-free g

@@ -66,9 +66,9 @@ replicate-at d zero j = refl
 replicate-at d (suc n) zero = refl
 replicate-at d (suc n) (suc j) = replicate-at d n j
 
-filled-zero : (n : ℕ) (xs : List ℕ) (j : ℕ) → length xs ≤ j → getD (filled n xs) j 0 ≡ 0
+filled-past : (n : ℕ) (xs : List ℕ) (j : ℕ) → length xs ≤ j → getD (filled n xs) j 0 ≡ 0
 unfolding filled
-filled-zero n xs j h =
+filled-past n xs j h =
     let e : j ≡ length xs + (j - length xs) = omega arith in
     ap (λ (k : ℕ). getD (xs ++ replicate (n - length xs) 0) k 0) e
     ∙ getD-append-add xs (replicate (n - length xs) 0) (j - length xs) 0
@@ -84,5 +84,5 @@ leaves-of-well-set root xs few up below =
       at-least-one = ascends-above 0 (leafList (leavesOf xs)) (ap (ascendsFrom 0) (leaves-of-list xs) ∙ up);
       ascending = ascends-places 0 (leafList (leavesOf xs)) (ap (ascendsFrom 0) (leaves-of-list xs) ∙ up);
       below-root = λ j h. below _ (subst (λ (ys : List ℕ). getD (leafList (leavesOf xs)) j 0 ∈ ys) (leaves-of-list xs) (at-place 0 (leafList (leavesOf xs)) j h));
-      unused-zero = λ j h. filled-zero leafLimit xs j h;
+      unused-zero = λ j h. filled-past leafLimit xs j h;
     }

@@ -1,0 +1,228 @@
+-- Demand 2, call by call: what an accepted call answers, and what its lent memory holds afterwards.
+-- Assumes nothing.
+use mathlib.Core.Path.{_≡_, refl, sym, ap, _∙_}
+use mathlib.Core.Bool.{Bool, true, false, false≢true, cond}
+use mathlib.Core.List.{List, [], map}
+use mathlib.Core.Logic.{_↔_}
+use mathlib.Core.Option.{Option, none, some}
+use Prim.Native.Nat.{ℕ, _-_, _≤_, _<_}
+use native.Mathlib.Omega.{arith}
+use lib.ListN.{length, getD, take, length-map}
+use Rattle.graph.specs.declared.refusal.Refusal.{Refusal}
+use Rattle.graph.specs.declared.refusal.Refusal.the-variants.{BadGraph, BadRoot, NoRoom}
+use Rattle.graph.specs.declared.evaluate.Evaluated.the-variants.{Outputs}
+use Rattle.graph.specs.Refuse.{firstRefusal}
+use Rattle.graph.specs.Lists.{filled}
+use Rattle.graph.specs.Lent.{short, Buffers, noRoomFor, storedIn}
+use Rattle.graph.specs.Graph.{Graph, size, sinks, WellFormed}
+use Rattle.graph.specs.Use.{usedGates}
+use Rattle.graph.specs.Evaluate.{outputsUnder, assignmentOf, evaluateRefusals, evaluateEffect, evaluatedOutcome}
+use Rattle.graph.proofs.WellFormed.{well-formed-iff}
+use Rattle.graph.proofs.Use.{in-use-iff}
+use Rattle.graph.proofs.Settles.{none-shown, numberOf-not-zero}
+use Rattle.graph.proofs.Tests.{eqb-iff}
+use Rattle.text.specs.declared.ReadText.{ReadText}
+use Rattle.text.specs.declared.WrittenText.{WrittenText}
+use Rattle.text.specs.States.{textOf}
+use Rattle.text.specs.Reading.{Reading, refuses, yields, reading}
+use Rattle.text.specs.Refusals.{WriteGiven}
+use Rattle.text.specs.Calls.{withRoom, readEffect, readOutcome, writeRefusals, writeEffect, writtenOutcome}
+use Rattle.text.proofs.Reading.{Stated, reading-iff}
+use Rattle.text.proofs.Refusals.{write-answers}
+use Rattle.text.proofs.RoundTrip.{round-trip}
+use Rattle.window.specs.declared.Leaves.{Leaves}
+use Rattle.window.specs.declared.RootTable.{RootTable}
+use Rattle.window.specs.Leaves.{WellSet}
+use Rattle.window.specs.Local.{Covered}
+use Rattle.window.specs.Table.{table}
+use Rattle.window.specs.LeafRule.{picked}
+use Rattle.window.specs.Calls.{RootGiven, rootRefusals, pickAnswer, verdictOutcome, pickOutcome, windowRefusals, tableAnswer, tableOutcome}
+use Rattle.window.proofs.Refusals.{pick-answers}
+use Rattle.window.proofs.LeafRule.{picked-well-set, picked-cuts}
+use Rattle.replace.specs.declared.Proposal.{Proposal}
+use Rattle.replace.specs.declared.Applied.{Applied}
+use Rattle.replace.specs.Rewire.{finished}
+use Rattle.replace.specs.Calls.{applyRefusals, applyEffect, appliedOutcome}
+use Rattle.listing.specs.declared.Candidate.{Candidate}
+use Rattle.listing.specs.declared.Listed.{Listed}
+use Rattle.listing.specs.Listing.{listed, IsTheList}
+use Rattle.listing.specs.Calls.{withList, listEffect, listedOutcome}
+use Rattle.listing.proofs.TheList.{listed-is}
+use Rattle.run.specs.declared.Ran.{Ran}
+use Rattle.run.specs.Run.{run}
+use Rattle.run.specs.Calls.{RunBuffers, RunGiven, runRefusals, filledIn, runEffect, ranOutcome}
+use Rattle.run.proofs.Run.{run-well-formed, run-no-larger}
+use Rattle.run.proofs.Refusals.{run-answers}
+use Rattle.promises.specs.Promises.{Keeps, Stored, Holds}
+use Rattle.promises.proofs.Meaning.{run-keeps, replacement-keeps, replacement-leaves-fewer-gates}
+use Rattle.promises.proofs.Stored.{stored-written, holds-stored, filled-all}
+
+-- what a test decides holds where its denial is refused
+decided : {P : Type 0} (t : Bool) → (t ≡ true) ↔ P → ¬ (¬ P) → P
+decided true says n = says .0 refl
+decided false says n = absurd (n (λ x. false≢true (says .1 x)))
+
+-- ---- reading
+
+module _ (t : List ℕ) (b : Buffers) (accepted : (readOutcome ((readEffect t b) .answer)) .number ≡ 0) where
+  read-yields : (g : Graph) × (reading t ≡ yields g) × (noRoomFor g b ≡ false)
+  unfolding readEffect readOutcome withRoom
+  read-yields = go (reading t) refl
+    where
+      room : (g : Graph) → reading t ≡ yields g → (o : Bool) → noRoomFor g b ≡ o → noRoomFor g b ≡ false
+      room g e true h = absurd (numberOf-not-zero NoRoom (sym accepted ∙ rw (e, readEffect, withRoom, h)))
+      room g e false h = h
+
+      go : (x : Reading) → reading t ≡ x → (g : Graph) × (reading t ≡ yields g) × (noRoomFor g b ≡ false)
+      go (refuses r) e = absurd (numberOf-not-zero r (sym accepted ∙ rw (e, readEffect, withRoom)))
+      go (yields g) e = (g, e, room g e (noRoomFor g b) refl)
+
+  pub read-leaves-stated :
+      (g : Graph)
+      × Stated t g
+      × ((readEffect t b) .answer ≡ ReadText.Graph (g .net .inputs) (size (g .net)) (length (g .outputs)))
+      × Holds g b ((readEffect t b) .lent)
+  unfolding readEffect withRoom
+  read-leaves-stated =
+      let (g, e, room) = read-yields in
+      let stated = reading-iff t g .0 e in
+      rw (e, readEffect, withRoom, room) (g, stated, refl, holds-stored g b (stated .well-formed))
+
+-- ---- writing
+
+module _ (g : Graph) (lent : List ℕ) (accepted : (writtenOutcome ((writeEffect g lent) .answer)) .number ≡ 0) where
+  write-none : firstRefusal (writeRefusals g lent) ≡ none
+  unfolding writeEffect writtenOutcome
+  write-none = none-shown (firstRefusal (writeRefusals g lent)) _ (λ q e. rw (e, writeEffect)) accepted
+
+  pub write-leaves-text :
+      WellFormed g × ((writeEffect g lent) .answer ≡ WrittenText.Bytes (length (textOf g))) × Stored (textOf g) lent ((writeEffect g lent) .lent)
+  unfolding writeEffect
+  write-leaves-text =
+      let ok = decided _ (well-formed-iff g) (λ n. write-answers g lent .accepts .0 accepted BadGraph (WriteGiven.bad-graph n)) in
+      rw (write-none, writeEffect) (ok, refl, stored-written (textOf g) lent)
+
+  -- the bytes written are read back as the graph
+  pub write-then-read : reading (take (length (textOf g)) ((writeEffect g lent) .lent)) ≡ yields g
+  write-then-read = let (ok, _, stored) = write-leaves-text in ap reading (stored .first-places) ∙ round-trip g ok
+
+-- ---- evaluating
+
+-- input v has the value that stands at place v - 1
+pub assigned-by-place : (vs : List ℕ) (v : ℕ) → (assignmentOf vs v ≡ true) ↔ (getD vs (v - 1) 0 ≡ 1)
+unfolding assignmentOf
+assigned-by-place vs v = eqb-iff _ _
+
+-- one value an output
+pub outputs-count : (g : Graph) (a : ℕ → Bool) → length (outputsUnder g a) ≡ length (sinks g)
+unfolding outputsUnder
+outputs-count g a = length-map (sinks g) _
+
+module _ (g : Graph) (vs lent : List ℕ) (accepted : (evaluatedOutcome ((evaluateEffect g vs lent) .answer)) .number ≡ 0) where
+  evaluate-none : firstRefusal (evaluateRefusals g vs lent) ≡ none
+  unfolding evaluateEffect evaluatedOutcome
+  evaluate-none = none-shown (firstRefusal (evaluateRefusals g vs lent)) _ (λ q e. rw (e, evaluateEffect)) accepted
+
+  pub evaluate-leaves-outputs :
+      ((evaluateEffect g vs lent) .answer ≡ Outputs (length (sinks g)))
+      × Stored (map (λ b. cond b 1 0) (outputsUnder g (assignmentOf vs))) lent ((evaluateEffect g vs lent) .lent)
+  unfolding evaluateEffect
+  evaluate-leaves-outputs = rw (evaluate-none, evaluateEffect) (refl, stored-written _ lent)
+
+-- ---- picking leaves, and the root's table
+
+module _ (g : Graph) (root : ℕ) (accepted : (pickOutcome (pickAnswer g root)) .number ≡ 0) where
+  pick-none : firstRefusal (rootRefusals g root) ≡ none
+  unfolding pickAnswer pickOutcome verdictOutcome
+  pick-none = none-shown (firstRefusal (rootRefusals g root)) _ (λ q e. rw (e, pickAnswer)) accepted
+
+  pick-none-given : (q : Refusal) → ¬ RootGiven g root q
+  pick-none-given = pick-answers g root .accepts .0 accepted
+
+  pub pick-answers-leaves :
+      ((pickAnswer g root) .leaves ≡ picked (g .net) root)
+      × WellSet root ((pickAnswer g root) .leaves)
+      × Covered (g .net) ((pickAnswer g root) .leaves) root
+  unfolding pickAnswer
+  pick-answers-leaves =
+      let law = decided _ (well-formed-iff g) (λ n. pick-none-given BadGraph (RootGiven.bad-graph n)) .lawful in
+      let gate = decided _ (in-use-iff g law root) (λ n. pick-none-given BadRoot (RootGiven.bad-root n)) .is-gate in
+      rw (pick-none, pickAnswer) (refl, picked-well-set g law root gate, picked-cuts g law root gate)
+
+module _ (g : Graph) (root : ℕ) (w : Leaves) (accepted : (tableOutcome (tableAnswer g root w)) .number ≡ 0) where
+  table-none : firstRefusal (windowRefusals g root w) ≡ none
+  unfolding tableAnswer tableOutcome
+  table-none = none-shown (firstRefusal (windowRefusals g root w)) _ (λ q e. rw (e, tableAnswer)) accepted
+
+  pub table-answers-table : tableAnswer g root w ≡ RootTable.Table (table (g .net) w root)
+  unfolding tableAnswer
+  table-answers-table = rw (table-none, tableAnswer)
+
+-- ---- listing
+
+module _ (g : Graph) (root : ℕ) (w : Leaves) (lent : List Candidate) (accepted : (listedOutcome ((listEffect g root w lent) .answer)) .number ≡ 0) where
+  list-none : (firstRefusal (windowRefusals g root w) ≡ none) × (short (length (listed g root w)) lent ≡ false)
+  unfolding listEffect listedOutcome withList
+  list-none = go (firstRefusal (windowRefusals g root w)) refl (short (length (listed g root w)) lent) refl
+    where
+      go : (o : Option Refusal) → firstRefusal (windowRefusals g root w) ≡ o → (s : Bool) → short (length (listed g root w)) lent ≡ s
+          → (firstRefusal (windowRefusals g root w) ≡ none) × (short (length (listed g root w)) lent ≡ false)
+      go (some r) e s h = absurd (numberOf-not-zero r (sym accepted ∙ rw (e, listEffect)))
+      go none e true h = absurd (numberOf-not-zero NoRoom (sym accepted ∙ rw (e, listEffect, h, withList)))
+      go none e false h = (e, h)
+
+  pub list-leaves-the-list :
+      ((listEffect g root w lent) .answer ≡ Listed.Records (length (listed g root w)))
+      × Stored (listed g root w) lent ((listEffect g root w lent) .lent)
+      × IsTheList g root w (listed g root w)
+  unfolding listEffect withList
+  list-leaves-the-list =
+      let (e, h) = list-none in rw (e, listEffect, h, withList) (refl, stored-written (listed g root w) lent, listed-is g root w)
+
+-- ---- applying a proposal
+
+module _ (g : Graph) (root : ℕ) (w : Leaves) (p : Proposal) (b : Buffers) (accepted : (appliedOutcome ((applyEffect g root w p b) .answer)) .number ≡ 0) where
+  apply-none : firstRefusal (applyRefusals g root w p b) ≡ none
+  unfolding applyEffect appliedOutcome
+  apply-none = none-shown (firstRefusal (applyRefusals g root w p b)) _ (λ q e. rw (e, applyEffect)) accepted
+
+  pub apply-leaves-finished :
+      ((applyEffect g root w p b) .answer ≡ Applied.Graph (size (finished g root p .net)) (length (finished g root p .outputs)))
+      × Holds (finished g root p) b ((applyEffect g root w p b) .lent)
+      × Keeps g (finished g root p)
+      × (usedGates (finished g root p) < usedGates g)
+  unfolding applyEffect
+  apply-leaves-finished =
+      let kept = replacement-keeps g root w p b accepted in
+      rw (apply-none, applyEffect) (refl, holds-stored (finished g root p) b (kept .well-formed), kept, replacement-leaves-fewer-gates g root w p b accepted)
+
+-- ---- the run
+
+-- a graph that keeps the outputs' values has as many outputs
+pub keeps-output-count : {g h : Graph} → Keeps g h → length (h .outputs) ≡ length (g .outputs)
+keeps-output-count {g} {h} k = let a : ℕ → Bool = λ v. false in sym (outputs-count h a) ∙ ap length (k .same-outputs a) ∙ outputs-count g a
+
+-- the run's words fit into the source graph's places
+run-words-fit : (g : Graph) (ok : WellFormed g) → length (run g .graph .net .gates) ≤ length (g .net .gates)
+run-words-fit g ok = omega (arith, run-no-larger g ok, ok .lawful .even, run-well-formed g ok .lawful .even)
+
+module _ (g : Graph) (b : RunBuffers) (accepted : (ranOutcome ((runEffect g b) .answer)) .number ≡ 0) where
+  run-none : firstRefusal (runRefusals g b) ≡ none
+  unfolding runEffect ranOutcome
+  run-none = none-shown (firstRefusal (runRefusals g b)) _ (λ q e. rw (e, runEffect)) accepted
+
+  -- the finished graph and then 0 in the source graph's places of the result, and 0 in those of the work area
+  pub run-leaves-finished :
+      ((runEffect g b) .answer ≡ Ran.Finished (size (run g .graph .net)) (run g .made))
+      × (length (run g .graph .net .gates) ≤ length (g .net .gates))
+      × Stored (filled (length (g .net .gates)) (run g .graph .net .gates)) (b .result .gates) ((runEffect g b) .lent .result .gates)
+      × Stored (run g .graph .outputs) (b .result .outputs) ((runEffect g b) .lent .result .outputs)
+      × Stored (filled (length (g .net .gates)) []) (b .work .gates) ((runEffect g b) .lent .work .gates)
+      × Stored (filled (length (g .outputs)) []) (b .work .outputs) ((runEffect g b) .lent .work .outputs)
+      × Keeps g (run g .graph)
+  unfolding runEffect filledIn storedIn
+  run-leaves-finished =
+      let ok = decided _ (well-formed-iff g) (λ n. run-answers g b .accepts .0 accepted BadGraph (RunGiven.bad-graph n)) in
+      let kept = run-keeps g ok in
+      rw (run-none, runEffect, filled-all (length (g .outputs)) (run g .graph .outputs) (keeps-output-count kept))
+      (refl, run-words-fit g ok, stored-written _ _, stored-written _ _, stored-written _ _, stored-written _ _, kept)
