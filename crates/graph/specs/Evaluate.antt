@@ -50,6 +50,7 @@ unfoldable pub isAssignment : Net → List ℕ → Bool
 unfolding all
 isAssignment net vs = eqb (length vs) (free net) && all (λ x. leb x 1) vs
 
+-- the same as facts
 pub record Assignment (net : Net) (vs : List ℕ) : Type 0 where
   pub count : length vs ≡ free net
   pub each : (j : ℕ) → j < length vs → getD vs j 0 ≤ 1

@@ -25,6 +25,7 @@ unfoldable pub noRoomFor : Graph → Buffers → Bool
 unfolding short
 noRoomFor g b = short (length (g .net .gates)) (b .gates) || short (length (g .outputs)) (b .outputs)
 
+-- the same as facts
 pub data NoRoomFor (g : Graph) (b : Buffers) : Type 0 where
   few-gate-words : length (b .gates) < length (g .net .gates) → NoRoomFor g b
   few-output-words : length (b .outputs) < length (g .outputs) → NoRoomFor g b

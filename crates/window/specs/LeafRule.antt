@@ -58,8 +58,8 @@ unfolding expansions smallest
 grow limit net zero xs = xs
 grow limit net (suc n) xs = elim (smallest (expansions limit net xs)) [ some ys ↦ grow limit net n ys | none ↦ xs ]
 
--- the leaf rule: start with the root's fanin variables, without 0. A leaf gives way to lower ones only, so the sum of 2 ^ v over
--- the leaves v falls, and 2 ^ root expansions are more than there can be
+-- the leaf rule: start with the root's fanin variables, without 0. A leaf gives way to at most two lower ones, different from each
+-- other, so the sum of 2 ^ v over the leaves v falls, and 2 ^ root expansions are more than there can be
 unfoldable pub ruleLeaves : ℕ → Net → ℕ → List ℕ
 unfolding grow withFanins
 ruleLeaves limit net root = grow limit net (2 ^ root) (withFanins net root [])
