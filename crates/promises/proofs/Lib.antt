@@ -1,4 +1,5 @@
 pub mod Bench
+pub mod Edges
 pub mod Answers
 pub mod Meaning
 pub mod Search

@@ -1,3 +1,4 @@
 pub mod Calls
 pub mod Bench
 pub mod Promises
+pub mod Edges
