@@ -40,8 +40,10 @@ textEdges =
     ∷ (answerTo "aag 0 0 0 0 0\n\n" ++ answerTo "aag 0 0 0 0 0\nl") gives (5 ∷ 5 ∷ [])
     -- of 5 and 6 the earlier line
     ∷ (answerTo "aag 2 2 0 0 0\n3\nx\n" ++ answerTo "aag 2 2 0 0 0\nx\n3\n") gives (6 ∷ 5 ∷ [])
-    -- inputs, gates, outputs; gate `4 2 3` is held as 3, 2, and gate `4 4 2` breaks its rule
-    ∷ readCall (bytes "aag 2 1 0 2 1\n2\n4\n5\n4 2 3\n") (buffers 2 2) gives (0 ∷ 1 ∷ 1 ∷ 2 ∷ 3 ∷ 2 ∷ 4 ∷ 5 ∷ [])
+    -- two inputs, one gate, three outputs
+    ∷ readCall (bytes "aag 3 2 0 3 1\n2\n4\n6\n7\n0\n6 2 5\n") (buffers 2 3) gives (0 ∷ 2 ∷ 1 ∷ 3 ∷ 5 ∷ 2 ∷ 6 ∷ 7 ∷ 0 ∷ [])
+    -- gate `4 2 3` is held as 3, 2, and gate `4 4 2` breaks its rule
+    ∷ readCall (bytes "aag 2 1 0 0 1\n2\n4 2 3\n") (buffers 2 0) gives (0 ∷ 1 ∷ 1 ∷ 0 ∷ 3 ∷ 2 ∷ [])
     ∷ answerTo "aag 2 1 0 0 1\n2\n4 4 2\n" gives (6 ∷ [])
     ∷ []
 
