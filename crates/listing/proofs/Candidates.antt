@@ -6,8 +6,8 @@ use Prim.Native.Nat.{ℕ, _*_, _<_}
 use native.Mathlib.Nat.{le-refl}
 use native.Mathlib.Omega.{arith}
 use Rattle.graph.specs.Lists.{_∈_, here, gather}
-use Rattle.graph.proofs.Members.{in-gather, in-left, in-right, in-same}
 use Rattle.graph.specs.Graph.{Net, Graph}
+use Rattle.graph.proofs.Members.{in-gather, in-left, in-right, in-same}
 use Rattle.window.specs.declared.Leaves.{Leaves}
 use Rattle.replace.specs.declared.Proposal.{Proposal}
 use Rattle.replace.specs.Proposal.{literal, andGate, Allowed, a-literal, an-and}

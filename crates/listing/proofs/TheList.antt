@@ -8,8 +8,8 @@ use Prim.Native.Nat.{ℕ, _≤_}
 use borrow.Author.Tests.{ltb-true, lt-ltb, eqb-true, eq-eqb}
 use lib.IntN.{ℤ, pos, negsuc, natAbs}
 use Rattle.graph.specs.Lists.{_∈_, here, keep}
-use Rattle.graph.proofs.Members.{none-in, in-same, in-keep, keep-from, map-from, in-map}
 use Rattle.graph.specs.Graph.{Graph}
+use Rattle.graph.proofs.Members.{none-in, in-same, in-keep, keep-from, map-from, in-map}
 use Rattle.graph.proofs.Lists.{and-left, and-right, and-both}
 use Rattle.window.specs.declared.Leaves.{Leaves}
 use Rattle.window.specs.Table.{sameTable}

@@ -24,10 +24,10 @@ use Rattle.graph.proofs.Tests.{eqb-iff}
 use Rattle.text.specs.declared.ReadText.{ReadText}
 use Rattle.text.specs.declared.WrittenText.{WrittenText}
 use Rattle.text.specs.States.{textOf}
-use Rattle.text.specs.Reading.{Reading, refuses, yields, reading}
+use Rattle.text.specs.Reading.{Stated, Reading, refuses, yields, reading}
 use Rattle.text.specs.Refusals.{WriteGiven}
 use Rattle.text.specs.Calls.{withRoom, readEffect, readOutcome, writeRefusals, writeEffect, writtenOutcome}
-use Rattle.text.proofs.Reading.{Stated, reading-iff}
+use Rattle.text.proofs.Reading.{reading-iff}
 use Rattle.text.proofs.Refusals.{write-answers}
 use Rattle.text.proofs.RoundTrip.{round-trip}
 use Rattle.window.specs.declared.Leaves.{Leaves}

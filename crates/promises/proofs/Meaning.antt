@@ -16,9 +16,9 @@ use Rattle.graph.proofs.Use.{first-lower, second-lower, in-use-iff, used-gates-
 use Rattle.graph.proofs.Drop.{AllReached, dropped-free, dropped-size, dropped-well-formed, dropped-all-reached, dropped-twice, dropped-same, dropped-uses}
 use Rattle.graph.proofs.DropKeeps.{dropped-keeps-outputs}
 use Rattle.text.specs.States.{States, textOf}
-use Rattle.text.specs.Reading.{mostBytes, yields, reading}
+use Rattle.text.specs.Reading.{Stated, mostBytes, yields, reading}
 use Rattle.text.proofs.States.{states-one, text-of-states}
-use Rattle.text.proofs.Reading.{Stated, reading-iff}
+use Rattle.text.proofs.Reading.{reading-iff}
 use Rattle.text.proofs.RoundTrip.{text-of-short, round-trip}
 use Rattle.window.specs.declared.Leaves.{Leaves}
 use Rattle.window.proofs.Coverage.{covered-iff}

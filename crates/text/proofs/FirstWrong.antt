@@ -4,7 +4,7 @@ use mathlib.Core.Path.{_≡_, refl, sym, ap, subst, _∙_}
 use mathlib.Core.Bool.{Bool, true, false, cond}
 use mathlib.Core.List.{List, [], _∷_}
 use mathlib.Core.Logic.{_↔_}
-use mathlib.Core.Option.{Option, none, some, Option·some-injective, Option·none-ne-some}
+use mathlib.Core.Option.{Option, none, some, Option·none-ne-some}
 use Prim.Native.Nat.{ℕ, _<_}
 use native.Mathlib.Omega.{arith}
 use Rattle.graph.specs.declared.refusal.Refusal.{Refusal}
@@ -15,24 +15,13 @@ use Rattle.text.specs.Line.{lineOf}
 use Rattle.text.specs.States.{skipped}
 use Rattle.text.specs.Reading.{Needed, Lines, wrong, right, withLine, readLines}
 use Rattle.text.specs.Refusals.{Shaped, FirstWrong, bad-rest, misshapen, breaks, later}
+use Rattle.text.proofs.Cases.{wrong-injective, wrong-not-right}
 use Rattle.text.proofs.Lines.{line-of-iff}
-
-wrongOf : Lines → Option Refusal
-wrongOf (wrong r) = some r
-wrongOf (right nss) = none
-
-pub wrong-injective : {q r : Refusal} → wrong q ≡ wrong r → q ≡ r
-unfolding wrongOf
-wrong-injective {q} {r} e = Option·some-injective q r (ap wrongOf e)
-
-pub right-not-wrong : {nss : List (List ℕ)} {r : Refusal} → ¬ (right nss ≡ wrong r)
-unfolding wrongOf
-right-not-wrong {r = r} e = Option·none-ne-some r (ap wrongOf e)
 
 with-line-wrong : (ns : List ℕ) (x : Lines) (r : Refusal) → withLine ns x ≡ wrong r → x ≡ wrong r
 unfolding withLine
 with-line-wrong ns (wrong q) r e = e
-with-line-wrong ns (right nss) r e = absurd (right-not-wrong e)
+with-line-wrong ns (right nss) r e = absurd (wrong-not-right (sym e))
 
 -- the steps of reading the lines
 module _ (need : Needed) (needs : List Needed) (t : List ℕ) where
@@ -70,7 +59,7 @@ unfolding readLines
 lines-wrong [] t r e = go (skipped t) refl e
   where
     go : (s : Bool) → skipped t ≡ s → cond s (right []) (wrong BadLine) ≡ wrong r → FirstWrong [] t r
-    go true q f = absurd (right-not-wrong f)
+    go true q f = absurd (wrong-not-right (sym f))
     go false q f = subst (FirstWrong [] t) (wrong-injective f) (bad-rest q)
 lines-wrong (need ∷ needs) t r e = first-wrong-line need needs t r (λ rest. lines-wrong needs rest r) e
 

@@ -1,4 +1,5 @@
 pub mod Numbers
+pub mod Cases
 pub mod Lines
 pub mod Gathered
 pub mod Body

@@ -1,35 +1,33 @@
 -- Reading yields a graph if and only if the text states it, and both are within the limits.
 -- Assumes nothing.
 use mathlib.Core.Path.{_≡_, refl, sym, ap, ap₂, _∙_, subst}
-use mathlib.Core.Bool.{Bool, true, false, cond, not, _||_, false≢true}
+use mathlib.Core.Bool.{true, _||_}
 use mathlib.Core.List.{List, [], _∷_, _++_, flatMap}
-use mathlib.Core.Logic.{_↔_}
-use mathlib.Core.Option.{Option, none, some, Option·some-ne-none}
-use Prim.Native.Nat.{ℕ, _+_, _≤_}
+use mathlib.Core.Logic.{_↔_, _⊎_, inl, inr}
+use mathlib.Core.Option.{Option, none, some}
+use Prim.Native.Nat.{ℕ, _+_, _≤_, _<_}
 use native.Mathlib.Omega.{arith}
-use borrow.Author.Tests.{ltb-false, eqb-true, not-false, le-ltb, eq-eqb}
+use borrow.Author.Tests.{le-ltb, eq-eqb}
 use lib.Dec.{ltb, eqb}
 use lib.ListN.{length, getD}
 use Rattle.graph.specs.declared.refusal.Refusal.{Refusal}
-use Rattle.graph.specs.declared.refusal.Refusal.the-variants.{BadHeader, TooLarge, Latches, BadCount}
+use Rattle.graph.specs.declared.refusal.Refusal.the-variants.{BadHeader, BadCount}
 use Rattle.graph.specs.Lists.{gather}
-use Rattle.graph.specs.Refuse.{firstRefusal}
-use Rattle.graph.specs.Graph.{Graph, WellFormed, mostInputs, mostOutputs, mostGates}
+use Rattle.graph.specs.Refuse.{firstRefusal, numberOf}
+use Rattle.graph.specs.Graph.{Graph, mostInputs, mostOutputs, mostGates}
+use Rattle.graph.proofs.Rows.{none-silent}
+use Rattle.graph.proofs.Tests.{test-off, denial-off, or-iff, ltb-iff, eqb-iff}
 use Rattle.text.specs.Number.{Front}
 use Rattle.text.specs.Line.{line}
-use Rattle.text.specs.States.{aag, States, textWith}
-use Rattle.text.specs.Reading.{Header, headerOf, headerLine, mostBytes, headerRefusals, linesNeeded, Lines, wrong, right, readLines, graphRead, Reading, refuses, yields, readBody, reading}
+use Rattle.text.specs.States.{aag, textWith}
+use Rattle.text.specs.Reading.{Stated, Header, headerOf, headerLine, mostBytes, headerRefusals, linesNeeded, Lines, wrong, right, readLines, graphRead, Reading, refuses, yields, readBody, reading}
 use Rattle.text.specs.Refusals.{Headed}
+use Rattle.text.proofs.Cases.{refuses-not-yields, yields-injective}
 use Rattle.text.proofs.Lines.{header-line-iff}
 use Rattle.text.proofs.Gathered.{singles-are}
 use Rattle.text.proofs.Body.{counts, linesOf, text-is, lines-fit, graph-of-lines}
 use Rattle.text.proofs.Fitting.{swapsRead, lines-of-read, read-lawful, read-counts, counts-small, numbers-small}
 use Rattle.text.proofs.Spelling.{Spelled, read-lines-iff}
-
-pub record Stated (t : List ℕ) (g : Graph) : Type 0 where
-  pub states : States t g
-  pub well-formed : WellFormed g
-  pub few-bytes : length t ≤ mostBytes
 
 -- ---- the first line
 
@@ -42,39 +40,38 @@ pub record WithinLimits (t : List ℕ) (h : Header) : Type 0 where
   pub no-latches : h .latches ≡ 0
   pub adds-up : h .highest ≡ h .inputs + h .gates
 
-neither : (a b : Bool) → a || b ≡ false → (a ≡ false) × (b ≡ false)
-neither true b e = absurd (false≢true (sym e))
-neither false b e = (refl, e)
-
-not-given : (b : Bool) (r : Refusal) (o : Option Refusal) → cond b (some r) o ≡ none → (b ≡ false) × (o ≡ none)
-not-given true r o e = absurd (Option·some-ne-none r e)
-not-given false r o e = (refl, e)
-
 module _ (t : List ℕ) (h : Header) where
+  -- the tests of the three rows
+  pub large-iff : (ltb mostInputs (h .inputs) || ltb mostOutputs (h .outputs) || ltb mostGates (h .gates) || ltb mostBytes (length t) ≡ true)
+      ↔ (((mostInputs < h .inputs ⊎ mostOutputs < h .outputs) ⊎ mostGates < h .gates) ⊎ mostBytes < length t)
+  large-iff = or-iff _ _ (or-iff _ _ (or-iff _ _ (ltb-iff _ _) (ltb-iff _ _)) (ltb-iff _ _)) (ltb-iff _ _)
+
+  pub latches-iff : (eqb (h .latches) 0 ≡ true) ↔ (h .latches ≡ 0)
+  latches-iff = eqb-iff (h .latches) 0
+
+  pub count-iff : (eqb (h .highest) (h .inputs + h .gates) ≡ true) ↔ (h .highest ≡ h .inputs + h .gates)
+  count-iff = eqb-iff (h .highest) (h .inputs + h .gates)
+
+  not-over : (m n : ℕ) → ¬ (m < n) → n ≤ m
+  not-over m n f = omega arith
+
   header-within : firstRefusal (headerRefusals t h) ≡ none → WithinLimits t h
-  unfolding headerRefusals firstRefusal
+  unfolding headerRefusals numberOf
   header-within e =
-      let i = ltb mostInputs (h .inputs) in
-      let o = ltb mostOutputs (h .outputs) in
-      let g = ltb mostGates (h .gates) in
-      let (large, e₁) = not-given (i || o || g || ltb mostBytes (length t)) TooLarge _ e in
-      let (latches, e₂) = not-given (not (eqb (h .latches) 0)) Latches _ e₁ in
-      let (counts, e₃) = not-given (not (eqb (h .highest) (h .inputs + h .gates))) BadCount none e₂ in
-      let (three, bytes) = neither (i || o || g) (ltb mostBytes (length t)) large in
-      let (two, gates) = neither (i || o) g three in
-      let (one, outputs) = neither i o two in
+      let s = none-silent (numberOf BadCount) (headerRefusals t h) e in
+      let not-large = test-off _ large-iff (s .0 refl) in
       record {
-        inputs-few = ltb-false _ _ one;
-        outputs-few = ltb-false _ _ outputs;
-        gates-few = ltb-false _ _ gates;
-        few-bytes = ltb-false _ _ bytes;
-        no-latches = eqb-true _ _ (not-false (eqb (h .latches) 0) latches);
-        adds-up = eqb-true _ _ (not-false (eqb (h .highest) (h .inputs + h .gates)) counts);
+        inputs-few = not-over _ _ (λ l. not-large (inl (inl (inl l))));
+        outputs-few = not-over _ _ (λ l. not-large (inl (inl (inr l))));
+        gates-few = not-over _ _ (λ l. not-large (inl (inr l)));
+        few-bytes = not-over _ _ (λ l. not-large (inr l));
+        no-latches = denial-off _ latches-iff (s .1 .0 refl);
+        adds-up = denial-off _ count-iff (s .1 .1 .0 refl);
       }
 
-  allowed-header : WithinLimits t h → firstRefusal (headerRefusals t h) ≡ none
+  within-header : WithinLimits t h → firstRefusal (headerRefusals t h) ≡ none
   unfolding headerRefusals firstRefusal
-  allowed-header a =
+  within-header a =
       rw (
         le-ltb mostInputs (h .inputs) (a .inputs-few),
         le-ltb mostOutputs (h .outputs) (a .outputs-few),
@@ -85,38 +82,24 @@ module _ (t : List ℕ) (h : Header) where
       )
 
   pub header-within-iff : (firstRefusal (headerRefusals t h) ≡ none) ↔ WithinLimits t h
-  header-within-iff = (header-within, allowed-header)
+  header-within-iff = (header-within, within-header)
 
 -- ---- what is read is stated
-
-refuses-not-yields : {P : Type 0} {r : Refusal} {g : Graph} → refuses r ≡ yields g → P
-refuses-not-yields {r} {g} e = absurd (false≢true (ap isYield e))
-  where
-    isYield : Reading → Bool
-    isYield (refuses r) = false
-    isYield (yields g) = true
-
-yields-inj : {g g′ : Graph} → yields g ≡ yields g′ → g ≡ g′
-yields-inj {g} {g′} e = ap graphIn e
-  where
-    graphIn : Reading → Graph
-    graphIn (refuses r) = g
-    graphIn (yields g) = g
 
 module _ {P : Type 0} (g : Graph) where
   header-yields : (o : Option (Front (List ℕ))) (f : Front (List ℕ) → Reading) → elim o [ none ↦ refuses BadHeader | some x ↦ f x ] ≡ yields g
       → ((x : Front (List ℕ)) → o ≡ some x → f x ≡ yields g → P) → P
-  header-yields none f e k = refuses-not-yields e
+  header-yields none f e k = absurd (refuses-not-yields e)
   header-yields (some x) f e k = k x refl e
 
   limits-yield : (o : Option Refusal) (y : Reading) → elim o [ some r ↦ refuses r | none ↦ y ] ≡ yields g → (o ≡ none → y ≡ yields g → P) → P
   limits-yield none y e k = k refl e
-  limits-yield (some r) y e k = refuses-not-yields e
+  limits-yield (some r) y e k = absurd (refuses-not-yields e)
 
   lines-yield : (l : Lines) (f : List (List ℕ) → Graph) → elim l [ wrong r ↦ refuses r | right nss ↦ yields (f nss) ] ≡ yields g
       → ((nss : List (List ℕ)) → l ≡ right nss → f nss ≡ g → P) → P
-  lines-yield (wrong r) f e k = refuses-not-yields e
-  lines-yield (right nss) f e k = k nss refl (yields-inj e)
+  lines-yield (wrong r) f e k = absurd (refuses-not-yields e)
+  lines-yield (right nss) f e k = k nss refl (yields-injective e)
 
 module _ (t ns rest : List ℕ) (nss : List (List ℕ)) (d : Headed t ns rest) (a : WithinLimits t (headerOf ns)) (p : Spelled (linesNeeded (headerOf ns)) rest nss) where
   abbrev graph : Graph
@@ -176,8 +159,8 @@ module _ (t : List ℕ) (g : Graph) (s : Stated t g) where
     shaped = record { count = refl; small = λ j l. omega (arith, counts-small g (s .well-formed) j); is = refl };
   }
 
-  stated-allowed : WithinLimits t (headerOf (counts g))
-  stated-allowed = record {
+  stated-within : WithinLimits t (headerOf (counts g))
+  stated-within = record {
     inputs-few = s .well-formed .inputs-few;
     outputs-few = s .well-formed .outputs-few;
     gates-few = s .well-formed .gates-few;
@@ -200,7 +183,7 @@ module _ (t : List ℕ) (g : Graph) (s : Stated t g) where
   stated-reading =
       rw (
         header-line-iff t (counts g) body .1 stated-headed,
-        header-within-iff t (headerOf (counts g)) .1 stated-allowed,
+        header-within-iff t (headerOf (counts g)) .1 stated-within,
         read-lines-iff (linesNeeded (headerOf (counts g))) body (linesOf g (s .states .swaps)) .1 stated-spelled,
         reading,
         readBody,

@@ -1,14 +1,14 @@
 -- Reading and writing refuse with the lowest number of the refusals that are given.
 -- Assumes nothing.
 use mathlib.Core.Path.{_≡_, refl, sym, ap, subst, _∙_}
-use mathlib.Core.Bool.{Bool, true, false, cond, _||_}
+use mathlib.Core.Bool.{Bool, true, false, cond}
 use mathlib.Core.List.{List}
-use mathlib.Core.Logic.{_↔_, _⊎_, inl, inr, ⊎-elim}
-use mathlib.Core.Option.{Option, none, some, Option·some-injective, Option·none-ne-some, Option·some-ne-none, orElse}
+use mathlib.Core.Logic.{_⊎_, inl, inr, ⊎-elim}
+use mathlib.Core.Option.{Option, none, some, Option·some-injective, Option·none-ne-some, orElse}
 use Prim.Native.Nat.{ℕ, _≤_, _<_, _+_}
 use native.Mathlib.Omega.{arith}
 use borrow.Author.Tests.{leb-true}
-use lib.Dec.{leb, ltb, eqb}
+use lib.Dec.{leb}
 use lib.ListN.{length}
 use Rattle.graph.specs.declared.refusal.Refusal.{Refusal}
 use Rattle.graph.specs.declared.refusal.Refusal.the-variants.{NoRoom}
@@ -18,32 +18,19 @@ use Rattle.graph.specs.Graph.{Graph, mostInputs, mostOutputs, mostGates}
 use Rattle.graph.proofs.WellFormed.{well-formed-iff}
 use Rattle.graph.proofs.Settles.{numberOf-not-zero, Settles, gives, clears, settles-then, settles-answers, shown}
 use Rattle.graph.proofs.Rows.{Decides, Silent, ascends, first-settles, first-none}
-use Rattle.graph.proofs.Tests.{denial-on, denial-off, test-off, or-iff, ltb-iff, eqb-iff, short-iff, no-room-iff}
+use Rattle.graph.proofs.Tests.{denial-on, denial-off, test-off, short-iff, no-room-iff}
 use Rattle.text.specs.Number.{Front, front}
 use Rattle.text.specs.States.{States, textOf}
-use Rattle.text.specs.Reading.{Header, headerOf, headerLine, mostBytes, headerRefusals, Needed, linesNeeded, Lines, wrong, right, readLines, Reading, refuses, yields, graphRead, readBody, reading}
+use Rattle.text.specs.Reading.{Header, headerOf, headerLine, headerRefusals, Needed, linesNeeded, Lines, wrong, right, readLines, refuses, yields, graphRead, readBody, reading}
 use Rattle.text.specs.Refusals.{Headed, FirstWrong, ReadGiven, WriteGiven}
 use Rattle.text.specs.Calls.{withRoom, readEffect, readOutcome, writeRefusals, writeEffect, writtenOutcome}
 use Rattle.text.proofs.Lines.{header-line-iff}
 use Rattle.text.proofs.States.{states-one}
-use Rattle.text.proofs.Reading.{reading-iff}
-use Rattle.text.proofs.FirstWrong.{wrong-injective, right-not-wrong, first-wrong-iff, wrong-number}
+use Rattle.text.proofs.Reading.{large-iff, latches-iff, count-iff, reading-iff}
+use Rattle.text.proofs.Cases.{wrong-injective, wrong-not-right, refusalOf, refusal-is, graph-is}
+use Rattle.text.proofs.FirstWrong.{first-wrong-iff, wrong-number}
 
 -- ---- reading
-
-refusalOf : Reading → Option Refusal
-refusalOf (refuses r) = some r
-refusalOf (yields g) = none
-
-refusal-is : (x : Reading) (r : Refusal) → refusalOf x ≡ some r → x ≡ refuses r
-unfolding refusalOf
-refusal-is (refuses q) r e = ap refuses (Option·some-injective q r e)
-refusal-is (yields g) r e = absurd (Option·none-ne-some r e)
-
-graph-is : (x : Reading) → refusalOf x ≡ none → (g : Graph) × (x ≡ yields g)
-unfolding refusalOf
-graph-is (refuses q) e = absurd (Option·some-ne-none q e)
-graph-is (yields g) e = (g, refl)
 
 -- the text has a well-shaped first line
 module _ (t : List ℕ) (b : Buffers) (ns rest : List ℕ) (e : headerLine t ≡ some (front ns rest)) where
@@ -64,17 +51,6 @@ module _ (t : List ℕ) (b : Buffers) (ns rest : List ℕ) (e : headerLine t ≡
   as-read P {ms} {u} h p =
       subst (λ (x : Front (List ℕ)). P (x .got) (x .rest)) (Option·some-injective (front ms u) (front ns rest) (sym (header-line-iff t ms u .1 h) ∙ e)) p
 
-  -- the tests of the three rows
-  large-iff : (ltb mostInputs (counts .inputs) || ltb mostOutputs (counts .outputs) || ltb mostGates (counts .gates) || ltb mostBytes (length t) ≡ true)
-      ↔ (((mostInputs < counts .inputs ⊎ mostOutputs < counts .outputs) ⊎ mostGates < counts .gates) ⊎ mostBytes < length t)
-  large-iff = or-iff _ _ (or-iff _ _ (or-iff _ _ (ltb-iff _ _) (ltb-iff _ _)) (ltb-iff _ _)) (ltb-iff _ _)
-
-  latches-iff : (eqb (counts .latches) 0 ≡ true) ↔ (counts .latches ≡ 0)
-  latches-iff = eqb-iff (counts .latches) 0
-
-  count-iff : (eqb (counts .highest) (counts .inputs + counts .gates) ≡ true) ↔ (counts .highest ≡ counts .inputs + counts .gates)
-  count-iff = eqb-iff (counts .highest) (counts .inputs + counts .gates)
-
   -- all that is given is early, and the rows do not miss it; or it is late: a wrong line, or no room
   data Case : Refusal → Type 0 where
     early : {r : Refusal} → leb (numberOf r) 4 ≡ true → ¬ Silent (numberOf r) rows → Case r
@@ -85,17 +61,17 @@ module _ (t : List ℕ) (b : Buffers) (ns rest : List ℕ) (e : headerLine t ≡
   unfolding headerRefusals numberOf
   case (ReadGiven.bad-header n) = absurd (n ns rest headed)
   case (ReadGiven.many-inputs h k) =
-      early refl (λ s. test-off _ large-iff (s .0 refl) (inl (inl (inl (as-read (λ ms u. mostInputs < (headerOf ms) .inputs) h k)))))
+      early refl (λ s. test-off _ (large-iff t counts) (s .0 refl) (inl (inl (inl (as-read (λ ms u. mostInputs < (headerOf ms) .inputs) h k)))))
   case (ReadGiven.many-outputs h k) =
-      early refl (λ s. test-off _ large-iff (s .0 refl) (inl (inl (inr (as-read (λ ms u. mostOutputs < (headerOf ms) .outputs) h k)))))
+      early refl (λ s. test-off _ (large-iff t counts) (s .0 refl) (inl (inl (inr (as-read (λ ms u. mostOutputs < (headerOf ms) .outputs) h k)))))
   case (ReadGiven.many-gates h k) =
-      early refl (λ s. test-off _ large-iff (s .0 refl) (inl (inr (as-read (λ ms u. mostGates < (headerOf ms) .gates) h k))))
-  case (ReadGiven.many-bytes k) = early refl (λ s. test-off _ large-iff (s .0 refl) (inr k))
+      early refl (λ s. test-off _ (large-iff t counts) (s .0 refl) (inl (inr (as-read (λ ms u. mostGates < (headerOf ms) .gates) h k))))
+  case (ReadGiven.many-bytes k) = early refl (λ s. test-off _ (large-iff t counts) (s .0 refl) (inr k))
   case (ReadGiven.latches h k) =
-      early refl (λ s. as-read (λ ms u. ¬ ((headerOf ms) .latches ≡ 0)) h k (denial-off _ latches-iff (s .1 .0 refl)))
+      early refl (λ s. as-read (λ ms u. ¬ ((headerOf ms) .latches ≡ 0)) h k (denial-off _ (latches-iff t counts) (s .1 .0 refl)))
   case (ReadGiven.bad-count h k) =
       early refl
-      (λ s. as-read (λ ms u. ¬ ((headerOf ms) .highest ≡ (headerOf ms) .inputs + (headerOf ms) .gates)) h k (denial-off _ count-iff (s .1 .1 .0 refl)))
+      (λ s. as-read (λ ms u. ¬ ((headerOf ms) .highest ≡ (headerOf ms) .inputs + (headerOf ms) .gates)) h k (denial-off _ (count-iff t counts) (s .1 .1 .0 refl)))
   case (ReadGiven.wrong-line {r} h w) = by-line (as-read (λ ms u. FirstWrong (linesNeeded (headerOf ms)) u r) h w)
   case (ReadGiven.no-room h k) = by-room h k
 
@@ -113,10 +89,10 @@ module _ (t : List ℕ) (b : Buffers) (ns rest : List ℕ) (e : headerLine t ≡
   header-decides = record {
     ascending = refl;
     sound = (
-      λ x. (⊎-elim (⊎-elim (⊎-elim (ReadGiven.many-inputs headed) (ReadGiven.many-outputs headed)) (ReadGiven.many-gates headed)) ReadGiven.many-bytes (large-iff .0 x), omega arith),
+      λ x. (⊎-elim (⊎-elim (⊎-elim (ReadGiven.many-inputs headed) (ReadGiven.many-outputs headed)) (ReadGiven.many-gates headed)) ReadGiven.many-bytes (large-iff t counts .0 x), omega arith),
       λ _. (
-        λ x. (ReadGiven.latches headed (denial-on _ latches-iff x), omega arith),
-        λ _. (λ x. (ReadGiven.bad-count headed (denial-on _ count-iff x), omega arith), λ _. tt),
+        λ x. (ReadGiven.latches headed (denial-on _ (latches-iff t counts) x), omega arith),
+        λ _. (λ x. (ReadGiven.bad-count headed (denial-on _ (count-iff t counts) x), omega arith), λ _. tt),
       ),
     );
     complete = λ q d. early-complete (case (d .0)) (d .1);
@@ -161,7 +137,7 @@ module _ (t : List ℕ) (b : Buffers) (ns rest : List ℕ) (e : headerLine t ≡
       only-room : {q : Refusal} → ReadGiven t b q → Case q → (q ≡ NoRoom) × NoRoomFor graph b
       unfolding Early
       only-room {q} d (early k n) = absurd (c q (d, leb-true (numberOf q) 4 k))
-      only-room d (by-line w) = absurd (right-not-wrong (sym f ∙ first-wrong-iff needs rest _ .1 w))
+      only-room d (by-line w) = absurd (wrong-not-right (sym (first-wrong-iff needs rest _ .1 w) ∙ f))
       only-room d (by-room {g} h k) = (refl, subst (λ (g : Graph). NoRoomFor g b) (states-one t g graph h graph-stated) k)
 
       room-settles : Settles (ReadGiven t b) (refusalOf (withRoom (yields graph) b))

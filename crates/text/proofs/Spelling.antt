@@ -1,20 +1,20 @@
 -- The lines after the first are read if and only if the text is such lines, each of which fits, and a rest that is skipped.
 -- Assumes nothing.
 use mathlib.Core.Path.{_≡_, refl, sym, ap, _∙_, subst}
-use mathlib.Core.Bool.{Bool, true, false, cond, false≢true}
+use mathlib.Core.Bool.{Bool, true, false, cond}
 use mathlib.Core.List.{List, [], _∷_, _++_, append-assoc, flatMap}
 use mathlib.Core.Logic.{_↔_}
 use mathlib.Core.Option.{Option, none, some}
 use Prim.Native.Nat.{ℕ, zero, suc, _≤_, _<_, suc-le-suc}
 use native.Mathlib.Nat.{suc-ne-zero, le-of-suc-le-suc, zero-lt-suc, not-suc-le-zero}
 use lib.ListN.{length, getD}
-use Rattle.graph.specs.declared.refusal.Refusal.{Refusal}
 use Rattle.graph.specs.declared.refusal.Refusal.the-variants.{BadLine, BadLiteral}
 use Rattle.text.specs.Number.{Front, mostNumber}
 use Rattle.text.specs.Line.{line, lineOf}
 use Rattle.text.specs.States.{skipped}
 use Rattle.text.specs.Reading.{Needed, Lines, wrong, right, withLine, readLines}
 use Rattle.text.specs.Refusals.{Shaped}
+use Rattle.text.proofs.Cases.{right-injective, wrong-not-right}
 use Rattle.text.proofs.Lines.{line-of-iff}
 use Rattle.text.proofs.Body.{Fits, fits-first, fits-later, fits-more}
 
@@ -26,35 +26,21 @@ pub record Spelled (needs : List Needed) (t : List ℕ) (nss : List (List ℕ)) 
   pub is : t ≡ flatMap line nss ++ rest
   pub rest-skipped : skipped rest ≡ true
 
-wrong-not-right : {P : Type 0} {r : Refusal} {nss : List (List ℕ)} → wrong r ≡ right nss → P
-wrong-not-right {r} {nss} e = absurd (false≢true (ap isRight e))
-  where
-    isRight : Lines → Bool
-    isRight (wrong r) = false
-    isRight (right nss) = true
-
-right-inj : {mss nss : List (List ℕ)} → right mss ≡ right nss → mss ≡ nss
-right-inj e = ap linesIn e
-  where
-    linesIn : Lines → List (List ℕ)
-    linesIn (wrong r) = []
-    linesIn (right nss) = nss
-
 -- where lines are right, the first one is shaped, keeps its rule, and the later ones are right
 module _ {P : Type 0} (nss : List (List ℕ)) where
   line-right : (o : Option (Front (List ℕ))) (f : Front (List ℕ) → Lines) → elim o [ none ↦ wrong BadLine | some x ↦ f x ] ≡ right nss
       → ((x : Front (List ℕ)) → o ≡ some x → f x ≡ right nss → P) → P
-  line-right none f e k = wrong-not-right e
+  line-right none f e k = absurd (wrong-not-right e)
   line-right (some x) f e k = k x refl e
 
   rule-right : (b : Bool) (l : Lines) → elim b [ true ↦ l | false ↦ wrong BadLiteral ] ≡ right nss → (b ≡ true → l ≡ right nss → P) → P
   rule-right true l e k = k refl e
-  rule-right false l e k = wrong-not-right e
+  rule-right false l e k = absurd (wrong-not-right e)
 
   later-right : (ns : List ℕ) (l : Lines) → withLine ns l ≡ right nss → ((mss : List (List ℕ)) → l ≡ right mss → ns ∷ mss ≡ nss → P) → P
   unfolding withLine
-  later-right ns (wrong r) e k = wrong-not-right e
-  later-right ns (right mss) e k = k mss refl (right-inj e)
+  later-right ns (wrong r) e k = absurd (wrong-not-right e)
+  later-right ns (right mss) e k = k mss refl (right-injective e)
 
 -- ---- line by line
 
@@ -96,7 +82,7 @@ unfolding readLines flatMap
 lines-spelled [] t nss e = go (skipped t) refl e
   where
     go : (b : Bool) → skipped t ≡ b → cond b (right []) (wrong BadLine) ≡ right nss → Spelled [] t nss
-    go true h e = subst (Spelled [] t) (right-inj e)
+    go true h e = subst (Spelled [] t) (right-injective e)
         (record {
           fits = record { count = refl; each = λ j l. absurd (not-suc-le-zero l) };
           small = λ j l. absurd (not-suc-le-zero l);
@@ -104,7 +90,7 @@ lines-spelled [] t nss e = go (skipped t) refl e
           is = refl;
           rest-skipped = h;
         })
-    go false h e = wrong-not-right e
+    go false h e = absurd (wrong-not-right e)
 lines-spelled (need ∷ needs) t nss e =
     line-right nss (lineOf (need .numbers) t) (λ x. elim (need .rule (x .got)) [ true ↦ withLine (x .got) (readLines needs (x .rest)) | false ↦ wrong BadLiteral ]) e λ x ex e₁.
     rule-right nss (need .rule (x .got)) (withLine (x .got) (readLines needs (x .rest))) e₁ λ er e₂.

@@ -1,6 +1,6 @@
 -- Reading any bytes whatever: the graph that they state, or the refusal that document 01's order selects.
 -- Assumes nothing.
-use Prim.Native.Nat.{ℕ, suc, _+_, _*_}
+use Prim.Native.Nat.{ℕ, suc, _+_, _*_, _≤_}
 use mathlib.Core.Bool.{Bool, true, false, cond, not, _&&_, _||_}
 use mathlib.Core.List.{List, [], _∷_, _++_, map, flatMap}
 use mathlib.Core.Option.{Option, none, some}
@@ -10,10 +10,10 @@ use Rattle.graph.specs.declared.refusal.Refusal.{Refusal}
 use Rattle.graph.specs.declared.refusal.Refusal.the-variants.{BadHeader, TooLarge, Latches, BadCount, BadLine, BadLiteral}
 use Rattle.graph.specs.Lists.{gather}
 use Rattle.graph.specs.Refuse.{Row, _⇒_, firstRefusal}
-use Rattle.graph.specs.Graph.{Graph, graphOf, largerFirst, mostInputs, mostOutputs, mostGates}
+use Rattle.graph.specs.Graph.{Graph, graphOf, WellFormed, largerFirst, mostInputs, mostOutputs, mostGates}
 use Rattle.text.specs.Number.{Front}
 use Rattle.text.specs.Line.{_>>=_, after, lineOf}
-use Rattle.text.specs.States.{aag, skipped}
+use Rattle.text.specs.States.{aag, skipped, States}
 
 -- ---- the first line
 
@@ -123,3 +123,9 @@ reading t =
       | none ↦ refuses BadHeader
       | some x ↦ elim (firstRefusal (headerRefusals t (headerOf (x .got)))) [ some r ↦ refuses r | none ↦ readBody (headerOf (x .got)) (x .rest) ]
     ]
+
+-- what reading accepts: the text states the graph, and both keep to the limits
+pub record Stated (t : List ℕ) (g : Graph) : Type 0 where
+  pub states : States t g
+  pub well-formed : WellFormed g
+  pub few-bytes : length t ≤ mostBytes

@@ -11,9 +11,9 @@ use lib.Dec.{leb, ltb}
 use lib.ListN.{length, getD, length-map}
 use Rattle.graph.specs.Lists.{_∈_, keep}
 use Rattle.graph.specs.Graph.{Net, free}
+use Rattle.graph.proofs.Members.{at-place, place-of, in-keep, keep-from, in-map, map-at, keep-map}
 use Rattle.window.specs.Leaves.{ascendsFrom}
 use Rattle.window.specs.LeafRule.{expand, expansions, smallest, Expandable, Chosen}
-use Rattle.graph.proofs.Members.{at-place, place-of, in-keep, keep-from, in-map, map-at, keep-map}
 use Rattle.window.proofs.Sets.{higher-later, keep-ascends}
 use Rattle.window.proofs.Smallest.{Smallest, smallest-is}
 

@@ -17,10 +17,10 @@ use Rattle.graph.specs.Evaluate.{assigned}
 use Rattle.graph.proofs.Lists.{at-most-or-above, strong, and-both}
 use Rattle.graph.proofs.Sweep.{values-length, values-at, own-value, gate-value}
 use Rattle.graph.proofs.Values.{assigned-gate}
+use Rattle.graph.proofs.Members.{at-place}
 use Rattle.window.specs.declared.Leaves.{Leaves}
 use Rattle.window.specs.Leaves.{leafList, leafPlace}
 use Rattle.window.specs.Local.{Covered, zero-is, leaf-is, gate-is, coverage, coveredOwn, covered, leafOwn, localAt}
-use Rattle.graph.proofs.Members.{at-place}
 use Rattle.window.proofs.Places.{leaf-found, leaf-missed}
 
 -- ---- one step of coverage

@@ -11,10 +11,10 @@ use lib.ListN.{length, getD}
 use Rattle.graph.specs.Lists.{_∈_}
 use Rattle.graph.specs.Literal.{varOf}
 use Rattle.graph.specs.Graph.{Net, Graph, first, second, IsGate, Lawful}
+use Rattle.graph.proofs.Members.{at-place, place-of}
 use Rattle.window.specs.Leaves.{ascendsFrom, leafList, leavesOf}
 use Rattle.window.specs.Local.{Covered, zero-is, leaf-is, gate-is}
 use Rattle.window.specs.LeafRule.{insert, remove, withFanins, expand}
-use Rattle.graph.proofs.Members.{at-place, place-of}
 use Rattle.window.proofs.LeafSets.{leaves-of-list}
 use Rattle.window.proofs.Sets.{ascends-nil, insert-is, insert-has, insert-keeps, insert-from, insert-length, insert-ascends, remove-is, remove-from, remove-keeps, remove-ascends}
 use Rattle.window.proofs.Weight.{weight, fanins-weight, remove-weight}

@@ -11,10 +11,10 @@ use lib.ListN.{length}
 use Rattle.graph.specs.Lists.{_∈_}
 use Rattle.graph.specs.Graph.{Net, Graph, free, IsGate, Lawful}
 use Rattle.graph.proofs.Lists.{at-most-or-above}
+use Rattle.graph.proofs.Members.{none-in}
 use Rattle.window.specs.Leaves.{leafLimit, leafList, WellSet}
 use Rattle.window.specs.Local.{Covered}
 use Rattle.window.specs.LeafRule.{Expandable, Chosen, Follows, stops, takes, withFanins, expand, expansions, smallest, grow, ruleLeaves, picked}
-use Rattle.graph.proofs.Members.{none-in}
 use Rattle.window.proofs.LeafSets.{leaves-of-list, leaves-of-well-set}
 use Rattle.window.proofs.Weight.{weight, weightless}
 use Rattle.window.proofs.Smallest.{none-smallest}

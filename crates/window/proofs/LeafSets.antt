@@ -12,10 +12,10 @@ use lib.ListN.{length, getD, drop, replicate, length-drop, List·getD-eq-default
 use lib.Seq.{getD-drop, getD-append-add, take-append-seam}
 use Rattle.graph.specs.Lists.{_∈_, filled, every}
 use Rattle.graph.proofs.Lists.{at-most-or-above, every-at, every-of, done, _then_, all-at, all-of}
+use Rattle.graph.proofs.Members.{at-place}
 use Rattle.window.specs.declared.Leaves.{Leaves}
 use Rattle.window.specs.Leaves.{leafLimit, leafList, leavesOf, ascendsFrom, leafRules, wellSet, WellSet}
 use Rattle.window.proofs.Sets.{ascends-above, ascends-places, ascends-of}
-use Rattle.graph.proofs.Members.{at-place}
 
 well-is : (root : ℕ) (w : Leaves) → wellSet root w ≡ every (leafRules root w)
 unfolding wellSet
