@@ -22,7 +22,7 @@ AllReached g = (v : ℕ) → IsGate (g .net) v → Reached g v
 
 -- ---- a net is its inputs and its gates' literals
 
-pub same-net : (net net′ : Net) → free net ≡ free net′ → length (net .gates) % 2 ≡ 0 → length (net .gates) ≡ length (net′ .gates)
+same-net : (net net′ : Net) → free net ≡ free net′ → length (net .gates) % 2 ≡ 0 → length (net .gates) ≡ length (net′ .gates)
     → ((v : ℕ) → IsGate net v → (first net v ≡ first net′ v) × (second net v ≡ second net′ v)) → net ≡ net′
 unfolding first second
 same-net net net′ f e l h = ap₂ netOf f (ext-getD 0 (net .gates) (net′ .gates) l word)

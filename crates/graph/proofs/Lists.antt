@@ -4,13 +4,14 @@ use mathlib.Core.Path.{_≡_, refl, sym, ap, ap₂, _∙_, subst}
 use mathlib.Core.Bool.{Bool, true, false, cond, _&&_, false≢true}
 use mathlib.Core.List.{List, [], _∷_, _++_, map}
 use mathlib.Core.Logic.{_⊎_, inl, inr, ⊎-elim}
-use Prim.Native.Nat.{ℕ, zero, suc, _+_, _≤_, _<_}
+use Prim.Native.Nat.{ℕ, zero, suc, _+_, _-_, _≤_, _<_}
 use native.Mathlib.Nat.{le-of-suc-le-suc, not-suc-le-zero, le-refl, zero-lt-suc}
 use native.Mathlib.Omega.{arith}
 use borrow.Author.Tests.{leb-true, leb-false, eqb-true, eqb-false}
 use lib.Dec.{leb, eqb}
-use lib.ListN.{length, getD}
-use Rattle.graph.specs.Lists.{every, allBelow, all, keep}
+use lib.ListN.{length, getD, take, replicate}
+use lib.Seq.{take-append-seam, getD-append-add}
+use Rattle.graph.specs.Lists.{filled, every, allBelow, all, keep}
 
 pub at-most-or-above : (a b : ℕ) → (a ≤ b) ⊎ (b < a)
 at-most-or-above a b = go (leb a b) refl
@@ -128,3 +129,16 @@ module _ {A : Type 0} (f : A → Bool) where
       go : (b : Bool) → length {A = A} (elim b [ true ↦ x ∷ [] | false ↦ [] ]) ≡ cond b 1 0
       go true = refl
       go false = refl
+
+-- ---- numbers filled up with 0
+
+module _ (n : ℕ) (xs : List ℕ) where
+  pub filled-first : take (length xs) (filled n xs) ≡ xs
+  unfolding filled
+  filled-first = take-append-seam xs _
+
+  pub filled-past : (j d : ℕ) → length xs ≤ j → getD (filled n xs) j d ≡ getD (replicate (n - length xs) 0) (j - length xs) d
+  unfolding filled
+  filled-past j d h =
+      let e : j ≡ length xs + (j - length xs) = omega arith in
+      ap (λ (i : ℕ). getD (xs ++ replicate (n - length xs) 0) i d) e ∙ getD-append-add xs (replicate (n - length xs) 0) (j - length xs) d

@@ -100,7 +100,7 @@ pub data Settles (given : Refusal → Type 0) : Option Refusal → Type 0 where
   clears : ((q : Refusal) → ¬ given q) → Settles given none
 
 -- of two lowest neither is lower, so they are one
-pub lowest-one : {given : Refusal → Type 0} {q r : Refusal} → Lowest given q → Lowest given r → q ≡ r
+lowest-one : {given : Refusal → Type 0} {q r : Refusal} → Lowest given q → Lowest given r → q ≡ r
 lowest-one {q = q} {r = r} l m = numberOf-injective q r (go (at-most-or-above (numberOf q) (numberOf r)) (at-most-or-above (numberOf r) (numberOf q)))
   where
     go : (numberOf q ≤ numberOf r) ⊎ (numberOf r < numberOf q) → (numberOf r ≤ numberOf q) ⊎ (numberOf q < numberOf r) → numberOf q ≡ numberOf r

@@ -34,7 +34,7 @@ module _ (net : Net) (a : ℕ → Bool) where
   plain-value v = literal-is false (2 * v) v (even (2 * v) (omega arith)) (omega arith)
 
   -- a literal complemented by the sign of l has its value complemented so
-  pub flip-value : (s l : ℕ) → literalUnder net a (flip s l) ≡ turned bools (isOdd l) (literalUnder net a s)
+  flip-value : (s l : ℕ) → literalUnder net a (flip s l) ≡ turned bools (isOdd l) (literalUnder net a s)
   unfolding turned bools
   flip-value s l = ⊎-elim
       (λ e.

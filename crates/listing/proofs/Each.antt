@@ -15,10 +15,10 @@ abbrev pub Each : {A : Type 0} → (A → Type 0) → List A → Type 0
 Each {A} P xs = (x : A) → x ∈ xs → P x
 
 module _ {A : Type 0} (P : A → Type 0) where
-  pub each-none : Each P []
+  each-none : Each P []
   each-none x m = absurd (none-in m)
 
-  pub each-more : (y : A) (ys : List A) → P y → Each P ys → Each P (y ∷ ys)
+  each-more : (y : A) (ys : List A) → P y → Each P ys → Each P (y ∷ ys)
   each-more y ys p ps x m = ⊎-elim (λ e. rw e p) (ps x) (in-cons m)
 
   pub each-one : (y : A) → P y → Each P (y ∷ [])

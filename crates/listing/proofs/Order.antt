@@ -31,12 +31,12 @@ before-less (by-first e h) = next e (here h)
 before-less (by-second e f h) = next e (next f (here h))
 before-less (by-turned e f k h) = next e (next f (next k (here h)))
 
-pub before-one-way : (x y : Candidate) → Before x y → ¬ Before y x
+before-one-way : (x y : Candidate) → Before x y → ¬ Before y x
 before-one-way x y h k = less-one-way (before-less h) (before-less k)
 
 -- ---- ascending is sorted by that order
 
-pub ascending-sorted : {xs : List Candidate} → Ascending xs → Sorted Before xs
+ascending-sorted : {xs : List Candidate} → Ascending xs → Sorted Before xs
 ascending-sorted none-left = nothing
 ascending-sorted (then-more h a) = first h (ascending-sorted a)
 

@@ -42,7 +42,8 @@ use Rattle.window.proofs.LeafRule.{picked-well-set, picked-cuts}
 use Rattle.replace.specs.declared.Proposal.{Proposal}
 use Rattle.replace.specs.declared.Applied.{Applied}
 use Rattle.replace.specs.Rewire.{finished}
-use Rattle.replace.specs.Calls.{applyRefusals, applyEffect, appliedOutcome}
+use Rattle.replace.specs.Calls.{applyEffect, appliedOutcome}
+use Rattle.replace.proofs.Refusals.{apply-none-given}
 use Rattle.listing.specs.declared.Candidate.{Candidate}
 use Rattle.listing.specs.declared.Listed.{Listed}
 use Rattle.listing.specs.Listing.{listed, IsTheList}
@@ -114,7 +115,7 @@ unfolding assignmentOf
 assigned-by-place vs v = eqb-iff _ _
 
 -- one value an output
-pub outputs-count : (g : Graph) (a : ℕ → Bool) → length (outputsUnder g a) ≡ length (sinks g)
+outputs-count : (g : Graph) (a : ℕ → Bool) → length (outputsUnder g a) ≡ length (sinks g)
 unfolding outputsUnder
 outputs-count g a = length-map (sinks g) _
 
@@ -182,10 +183,6 @@ module _ (g : Graph) (root : ℕ) (w : Leaves) (lent : List Candidate) (accepted
 -- ---- applying a proposal
 
 module _ (g : Graph) (root : ℕ) (w : Leaves) (p : Proposal) (b : Buffers) (accepted : (appliedOutcome ((applyEffect g root w p b) .answer)) .number ≡ 0) where
-  apply-none : firstRefusal (applyRefusals g root w p b) ≡ none
-  unfolding applyEffect appliedOutcome
-  apply-none = none-shown (firstRefusal (applyRefusals g root w p b)) _ (λ q e. rw (e, applyEffect)) accepted
-
   pub apply-leaves-finished :
       ((applyEffect g root w p b) .answer ≡ Applied.Graph (size (finished g root p .net)) (length (finished g root p .outputs)))
       × Holds (finished g root p) b ((applyEffect g root w p b) .lent)
@@ -194,12 +191,12 @@ module _ (g : Graph) (root : ℕ) (w : Leaves) (p : Proposal) (b : Buffers) (acc
   unfolding applyEffect
   apply-leaves-finished =
       let kept = replacement-keeps g root w p b accepted in
-      rw (apply-none, applyEffect) (refl, holds-stored (finished g root p) b (kept .well-formed), kept, replacement-leaves-fewer-gates g root w p b accepted)
+      rw (apply-none-given g root w p b accepted, applyEffect) (refl, holds-stored (finished g root p) b (kept .well-formed), kept, replacement-leaves-fewer-gates g root w p b accepted)
 
 -- ---- the run
 
 -- a graph that keeps the outputs' values has as many outputs
-pub keeps-output-count : {g h : Graph} → Keeps g h → length (h .outputs) ≡ length (g .outputs)
+keeps-output-count : {g h : Graph} → Keeps g h → length (h .outputs) ≡ length (g .outputs)
 keeps-output-count {g} {h} k = let a : ℕ → Bool = λ v. false in sym (outputs-count h a) ∙ ap length (k .same-outputs a) ∙ outputs-count g a
 
 -- the run's words fit into the source graph's places

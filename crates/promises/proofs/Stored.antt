@@ -1,14 +1,15 @@
 -- What stands in lent lists after a call wrote its words there, and in the words that it filled up with 0.
 -- Assumes nothing.
-use mathlib.Core.Path.{_≡_, sym, ap, _∙_}
-use mathlib.Core.List.{List, _++_}
-use Prim.Native.Nat.{ℕ, _+_, _-_, _≤_, _<_}
+use mathlib.Core.Path.{_≡_, sym, _∙_}
+use mathlib.Core.List.{List}
+use Prim.Native.Nat.{ℕ, _-_, _≤_, _<_}
 use native.Mathlib.Omega.{arith}
-use lib.ListN.{length, getD, take, replicate, length-append, length-replicate, getD-replicate}
-use lib.Seq.{take-all, take-append-seam, drop-append-seam, getD-append-add}
+use lib.ListN.{length, getD, replicate, length-append, length-replicate, getD-replicate}
+use lib.Seq.{take-all, take-append-seam, drop-append-seam}
 use Rattle.graph.specs.Lists.{filled}
 use Rattle.graph.specs.Lent.{written, Buffers, storedIn}
 use Rattle.graph.specs.Graph.{Graph, WellFormed}
+use Rattle.graph.proofs.Lists.{filled-first, filled-past}
 use Rattle.promises.specs.Promises.{Stored, Holds}
 
 -- ---- words written into a lent list
@@ -29,18 +30,9 @@ holds-stored h b ok = record {
 -- ---- words filled up with 0 to n places
 
 module _ (n : ℕ) (xs : List ℕ) where
-  pub filled-first : take (length xs) (filled n xs) ≡ xs
-  unfolding filled
-  filled-first = take-append-seam xs _
-
   -- 0 stands in the places after them, whatever would be read past the end
   pub filled-zero : (j d : ℕ) → length xs ≤ j → j < n → getD (filled n xs) j d ≡ 0
-  unfolding filled
-  filled-zero j d h l =
-      let e : j ≡ length xs + (j - length xs) = omega arith in
-      ap (λ (i : ℕ). getD (xs ++ replicate (n - length xs) 0) i d) e
-      ∙ getD-append-add xs _ (j - length xs) d
-      ∙ getD-replicate (n - length xs) (j - length xs) 0 d (omega arith)
+  filled-zero j d h l = filled-past n xs j d h ∙ getD-replicate (n - length xs) (j - length xs) 0 d (omega arith)
 
   pub filled-as-long : length xs ≤ n → length (filled n xs) ≡ n
   unfolding filled
@@ -48,4 +40,4 @@ module _ (n : ℕ) (xs : List ℕ) where
 
   -- nothing is filled up where they take all n places
   pub filled-all : length xs ≡ n → filled n xs ≡ xs
-  filled-all e = sym (take-all (length xs) (filled n xs) (omega (arith, filled-as-long (omega arith)))) ∙ filled-first
+  filled-all e = sym (take-all (length xs) (filled n xs) (omega (arith, filled-as-long (omega arith)))) ∙ filled-first n xs

@@ -55,8 +55,10 @@ graphEdges =
     ∷ (writeCall (graphOf 0 [] (replicate 65 0)) 0 ++ writeCall (graphOf 0 [] (replicate 64 0)) 0) gives (7 ∷ 16 ∷ [])
     -- an input, and a gate not in use, is no root
     ∷ (pickCall e1 2 ++ pickCall (graphOf 1 (3 ∷ 2 ∷ []) []) 2) gives (9 ∷ 9 ∷ [])
-    -- six leaves and seven; variable 0; the root itself; an unused place that is not 0
-    ∷ (tableCall e1 4 (leavesOf (1 ∷ 2 ∷ [])) ++ tableCall e1 4 (leavesOf (1 ∷ 2 ∷ 3 ∷ 4 ∷ 5 ∷ 6 ∷ 7 ∷ []))) gives (0 ∷ 0x8888888888888888 ∷ 10 ∷ [])
+    -- six leaves and seven
+    ∷ tableCall (graphOf 6 (4 ∷ 2 ∷ []) (14 ∷ [])) 7 (leavesOf (1 ∷ 2 ∷ 3 ∷ 4 ∷ 5 ∷ 6 ∷ [])) gives (0 ∷ 0x8888888888888888 ∷ [])
+    ∷ tableCall (graphOf 7 (4 ∷ 2 ∷ []) (16 ∷ [])) 8 (leavesOf (1 ∷ 2 ∷ 3 ∷ 4 ∷ 5 ∷ 6 ∷ 7 ∷ [])) gives (10 ∷ [])
+    -- variable 0 as a leaf, the root itself, and an unused place that is not 0
     ∷ (tableCall e1 4 (leavesOf (0 ∷ 1 ∷ [])) ++ tableCall e1 4 (leavesOf (1 ∷ 4 ∷ []))) gives (10 ∷ 10 ∷ [])
     ∷ tableCall e1 4 (record { count = 1; places = 1 ∷ 2 ∷ 0 ∷ 0 ∷ 0 ∷ 0 ∷ [] }) gives (10 ∷ [])
     -- evaluating: the first value is input 1's

@@ -97,15 +97,15 @@ module _ (g : Graph) (root : ℕ) (w : Leaves) (p : Proposal) where
     unfolding applyEffect appliedOutcome
     apply-leaves r e = let s = shown (firstRefusal (applyRefusals g root w p b)) _ (λ n. rw (n, applyEffect)) r e in rw (s .1, applyEffect)
 
-    none-given : (appliedOutcome ((applyEffect g root w p b) .answer)) .number ≡ 0 → firstRefusal (applyRefusals g root w p b) ≡ none
+    pub apply-none-given : (appliedOutcome ((applyEffect g root w p b) .answer)) .number ≡ 0 → firstRefusal (applyRefusals g root w p b) ≡ none
     unfolding applyEffect appliedOutcome
-    none-given e = none-shown (firstRefusal (applyRefusals g root w p b)) _ (λ q r. rw (r, applyEffect)) e
+    apply-none-given e = none-shown (firstRefusal (applyRefusals g root w p b)) _ (λ q r. rw (r, applyEffect)) e
 
     -- a proposal that is not refused is all that is asked
     pub apply-accepted : (appliedOutcome ((applyEffect g root w p b) .answer)) .number ≡ 0 → Accepted g root w p
     unfolding applyRefusals numberOf
     apply-accepted e =
-        let parts = none-parts (windowRefusals g root w) _ (none-given e) in
+        let parts = none-parts (windowRefusals g root w) _ (apply-none-given e) in
         let s = none-silent (numberOf NoGain) _ (parts .1) in
         record {
           window = window-accepted g root w (parts .0);

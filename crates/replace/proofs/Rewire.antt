@@ -50,7 +50,7 @@ module _ (net : Net) (root : ℕ) (p : Proposal) where
       either true xs ys h k = h
       either false xs ys h k = k
 
-  pub rewired-length : length (rewiredNet net root p .gates) ≡ 2 * size net
+  rewired-length : length (rewiredNet net root p .gates) ≡ 2 * size net
   unfolding rewiredNet
   rewired-length = length-gather 2 (λ k. rewiredGate net root p (suc (free net + k))) (λ k. two (suc (free net + k))) (size net)
 
@@ -88,7 +88,7 @@ module _ (net : Net) (root : ℕ) (p : Proposal) where
     unfolding rewiredGate
     other-gate n = words _ _ (rw (ne-eqb v root n))
 
-    pub literal-root : v ≡ root → p .kind ≡ 0 → Holds (first net root) (second net root)
+    literal-root : v ≡ root → p .kind ≡ 0 → Holds (first net root) (second net root)
     unfolding rewiredGate rootGates
     literal-root e k = words _ _ (rw (eq-eqb v root e, k))
 

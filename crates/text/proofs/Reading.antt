@@ -81,7 +81,7 @@ module _ (t : List ℕ) (h : Header) where
         eq-eqb (h .highest) (h .inputs + h .gates) (a .adds-up),
       )
 
-  pub header-within-iff : (firstRefusal (headerRefusals t h) ≡ none) ↔ WithinLimits t h
+  header-within-iff : (firstRefusal (headerRefusals t h) ≡ none) ↔ WithinLimits t h
   header-within-iff = (header-within, within-header)
 
 -- ---- what is read is stated

@@ -2,16 +2,16 @@
 -- Assumes nothing.
 use mathlib.Core.Path.{_≡_, refl, sym, ap, _∙_, subst}
 use mathlib.Core.Bool.{true}
-use mathlib.Core.List.{List, _++_}
+use mathlib.Core.List.{List}
 use mathlib.Core.Logic.{_↔_, ⊎-elim}
 use Prim.Native.Nat.{ℕ, zero, suc, _+_, _-_, _≤_, _<_}
 use native.Mathlib.Omega.{arith}
 use borrow.Author.Tests.{leb-true, ltb-true, eqb-true, le-leb, lt-ltb, eq-eqb}
 use lib.Dec.{ltb, eqb}
 use lib.ListN.{length, getD, drop, replicate, length-drop, List·getD-eq-default}
-use lib.Seq.{getD-drop, getD-append-add, take-append-seam}
-use Rattle.graph.specs.Lists.{_∈_, filled, every}
-use Rattle.graph.proofs.Lists.{at-most-or-above, every-at, every-of, done, _then_, all-at, all-of}
+use lib.Seq.{getD-drop}
+use Rattle.graph.specs.Lists.{_∈_, every}
+use Rattle.graph.proofs.Lists.{filled-first, filled-past, at-most-or-above, every-at, every-of, done, _then_, all-at, all-of}
 use Rattle.graph.proofs.Members.{at-place}
 use Rattle.window.specs.declared.Leaves.{Leaves}
 use Rattle.window.specs.Leaves.{leafLimit, leafList, leavesOf, ascendsFrom, leafRules, wellSet, WellSet}
@@ -58,21 +58,13 @@ module _ (root : ℕ) (w : Leaves) where
   well-set-iff = (well-set, well-set-test)
 
 pub leaves-of-list : (xs : List ℕ) → leafList (leavesOf xs) ≡ xs
-unfolding leavesOf filled
-leaves-of-list xs = take-append-seam xs (replicate (leafLimit - length xs) 0)
+unfolding leavesOf
+leaves-of-list xs = filled-first leafLimit xs
 
 replicate-at : {A : Type 0} (d : A) (n j : ℕ) → getD (replicate n d) j d ≡ d
 replicate-at d zero j = refl
 replicate-at d (suc n) zero = refl
 replicate-at d (suc n) (suc j) = replicate-at d n j
-
-filled-past : (n : ℕ) (xs : List ℕ) (j : ℕ) → length xs ≤ j → getD (filled n xs) j 0 ≡ 0
-unfolding filled
-filled-past n xs j h =
-    let e : j ≡ length xs + (j - length xs) = omega arith in
-    ap (λ (k : ℕ). getD (xs ++ replicate (n - length xs) 0) k 0) e
-    ∙ getD-append-add xs (replicate (n - length xs) 0) (j - length xs) 0
-    ∙ replicate-at 0 (n - length xs) (j - length xs)
 
 -- at most six leaves that ascend from 0 and stay below the root are well set down under it
 pub leaves-of-well-set : (root : ℕ) (xs : List ℕ) → length xs ≤ leafLimit → ascendsFrom 0 xs ≡ true → ((v : ℕ) → v ∈ xs → v < root)
@@ -84,5 +76,5 @@ leaves-of-well-set root xs few up below =
       at-least-one = ascends-above 0 (leafList (leavesOf xs)) (ap (ascendsFrom 0) (leaves-of-list xs) ∙ up);
       ascending = ascends-places 0 (leafList (leavesOf xs)) (ap (ascendsFrom 0) (leaves-of-list xs) ∙ up);
       below-root = λ j h. below _ (subst (λ (ys : List ℕ). getD (leafList (leavesOf xs)) j 0 ∈ ys) (leaves-of-list xs) (at-place 0 (leafList (leavesOf xs)) j h));
-      unused-zero = λ j h. filled-past leafLimit xs j h;
+      unused-zero = λ j h. filled-past leafLimit xs j 0 h ∙ replicate-at 0 (leafLimit - length xs) (j - length xs);
     }
