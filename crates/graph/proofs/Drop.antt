@@ -1,20 +1,21 @@
 -- Dropping the gates not in use: R gates are left, in order and all in use; a graph that has no others is left as it is.
 -- Assumes nothing.
 use mathlib.Core.Path.{_≡_, refl, sym, ap, ap₂, _∙_, subst}
-use mathlib.Core.List.{List, map, map-id}
+use mathlib.Core.List.{List, map-id}
 use mathlib.Core.Logic.{_⊎_, ⊎-elim}
 use Prim.Native.Nat.{ℕ, suc, _+_, _-_, _*_, _/_, _%_, _≤_, _<_}
 use native.Mathlib.Omega.{arith}
-use lib.ListN.{length, getD, length-map, List·getD-map}
+use lib.ListN.{length, getD, length-map}
 use lib.Seq.{ext-getD}
 use Rattle.graph.specs.Literal.{varOf}
 use Rattle.graph.specs.Graph.{Net, Graph, netOf, graphOf, free, size, last, sinks, first, second, IsGate, Lawful, WellFormed}
 use Rattle.graph.specs.Use.{Reached, as-output, as-first, as-second, marks, usedGates}
 use Rattle.graph.specs.Drop.{newNumber, renumbered, keptNet, dropped}
+use Rattle.graph.proofs.Members.{map-at}
 use Rattle.graph.proofs.Lists.{at-most-or-above, map-same}
 use Rattle.graph.proofs.Marks.{Marked}
 use Rattle.graph.proofs.Use.{marked-reached, reached-marked, fanins-are-marked}
-use Rattle.graph.proofs.Renumber.{count-most, count-all, number-same, number-low, number-most, number-less, kept-length, kept-size, kept-gate, kept-first, kept-second, Kept, all-kept, renumbered-var, renumbered-mono}
+use Rattle.graph.proofs.Renumber.{count-most, count-all, number-same, number-most, number-less, kept-length, kept-size, kept-gate, kept-first, kept-second, Kept, all-kept, renumbered-var, renumbered-mono}
 
 -- every gate is in use
 abbrev pub AllReached : Graph → Type 0
@@ -49,11 +50,9 @@ module _ (g : Graph) where
   abbrev pub literal : ℕ → ℕ
   literal l = renumbered (g .net) (marks g) l
 
-  sink-at : (j : ℕ) → getD (sinks (dropped g)) j 0 ≡ literal (getD (sinks g) j 0)
+  sink-at : (j : ℕ) → j < length (sinks g) → getD (sinks (dropped g)) j 0 ≡ literal (getD (sinks g) j 0)
   unfolding dropped
-  sink-at j =
-      let z : renumbered (g .net) (marks g) 0 ≡ 0 = unfold renumbered in omega (arith, number-low (g .net) (marks g) 0 (omega arith)) in
-      ap (getD (map (renumbered (g .net) (marks g)) (sinks g)) j) (sym z) ∙ List·getD-map (renumbered (g .net) (marks g)) (sinks g) j 0
+  sink-at j h = map-at (renumbered (g .net) (marks g)) 0 0 (sinks g) j h
 
   sink-count : length (sinks (dropped g)) ≡ length (sinks g)
   unfolding dropped
@@ -104,9 +103,10 @@ module _ (g : Graph) (ok : Lawful g) where
   sinks-stay : (j : ℕ) → j < length (sinks (dropped g)) → getD (sinks (dropped g)) j 0 ≤ 2 * last (dropped g .net) + 1
   unfolding renumbered usedGates
   sinks-stay j h =
-      let b = ok .sinks-within j (omega (arith, sink-count g)) in
+      let l : j < length (sinks g) = omega (arith, sink-count g) in
+      let b = ok .sinks-within j l in
       let n = number-most (g .net) (marks g) (varOf (getD (sinks g) j 0)) (omega arith) in
-      omega (arith, sink-at g j, dropped-size g, dropped-free g)
+      omega (arith, sink-at g j l, dropped-size g, dropped-free g)
 
   gate-stays : (v : ℕ) → IsGate (g .net) v → Marked (marks g) v
       → (second (dropped g .net) (number g v) ≤ first (dropped g .net) (number g v)) × (first (dropped g .net) (number g v) < 2 * number g v)
@@ -134,7 +134,7 @@ module _ (g : Graph) (ok : Lawful g) where
 
   reached-stays : (v : ℕ) → Reached g v → Reached (dropped g) (number g v)
   reached-stays v (as-output j h) =
-      subst (Reached (dropped g)) (ap varOf (sink-at g j) ∙ literal-var g (getD (sinks g) j 0)) (as-output j (omega (arith, sink-count g)))
+      subst (Reached (dropped g)) (ap varOf (sink-at g j h) ∙ literal-var g (getD (sinks g) j 0)) (as-output j (omega (arith, sink-count g)))
   reached-stays v (as-first {v = u} i r) =
       let m = reached-marked g ok u r in
       subst (Reached (dropped g)) (ap varOf (new-first g u i m) ∙ literal-var g (first (g .net) u)) (as-first (new-gate g u i m) (reached-stays u r))

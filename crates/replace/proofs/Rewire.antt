@@ -1,18 +1,19 @@
 -- The rewired graph: its gates one by one, and that it is lawful for every proposal that keeps its rule.
 -- Assumes nothing.
-use mathlib.Core.Path.{_≡_, refl, sym, ap, _∙_}
+use mathlib.Core.Path.{_≡_, refl, ap, _∙_}
 use mathlib.Core.Bool.{Bool, true, false, cond}
-use mathlib.Core.List.{List, map}
+use mathlib.Core.List.{List}
 use mathlib.Core.Logic.{_⊎_, ⊎-elim}
 use Prim.Native.Nat.{ℕ, suc, _+_, _-_, _*_, _≤_, _<_, max, min}
 use native.Mathlib.Omega.{arith}
 use borrow.Author.Tests.{eq-eqb, ne-eqb}
 use lib.Dec.{eqb}
-use lib.ListN.{length, getD, length-map, List·getD-map}
+use lib.ListN.{length, getD, length-map}
 use Rattle.graph.specs.Literal.{varOf, flip}
 use Rattle.graph.specs.Graph.{Net, Graph, free, size, last, sinks, first, second, largerFirst, IsGate, Lawful, WellFormed}
 use Rattle.graph.proofs.Lists.{equal-or-not}
 use Rattle.graph.proofs.WellFormed.{larger-first}
+use Rattle.graph.proofs.Members.{map-at}
 use Rattle.graph.proofs.Gather.{length-gather, getD-gather}
 use Rattle.graph.proofs.Drop.{dropped-free, dropped-well-formed}
 use Rattle.window.specs.declared.Leaves.{Leaves}
@@ -144,10 +145,8 @@ module _ (g : Graph) (ok : Lawful g) (root : ℕ) (gate : IsGate (g .net) root) 
   sink-at j h =
       let b = ok .sinks-within j h in
       let t = gate .within in
-      let z : redirected root p 0 ≡ 0 = redirected-other root p 0 (λ e. let a = gate .above in omega arith) in
-      let e = ap (getD (map (redirected root p) (sinks g)) j) (sym z) ∙ List·getD-map (redirected root p) (sinks g) j 0 in
       let m = redirected-low (getD (sinks g) j 0) (suc (last (g .net))) (omega arith) in
-      omega (arith, e)
+      omega (arith, map-at (redirected root p) 0 0 (sinks g) j h)
 
   pub rewired-lawful : Lawful (rewired g root p)
   rewired-lawful = record {
