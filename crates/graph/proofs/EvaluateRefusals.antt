@@ -27,7 +27,7 @@ assignment-iff net vs = (
 
 module _ (g : Graph) (vs lent : List ℕ) where
   evaluate-complete : (q : Refusal) → EvaluateGiven g vs lent q → ¬ Silent (numberOf q) (evaluateRefusals g vs lent)
-  unfolding evaluateRefusals numberOf
+  unfolding evaluateRefusals
   evaluate-complete q (bad-graph h) s = h (denial-off _ (well-formed-iff g) (s .0 refl))
   evaluate-complete q (bad-assignment h) s = h (denial-off _ (assignment-iff (g .net) vs) (s .1 .0 refl))
   evaluate-complete q (no-room h) s = test-off _ (short-iff (length (sinks g)) lent) (s .1 .1 .0 refl) h

@@ -18,7 +18,7 @@ module _ {A : Type 0} where
   gather-same f g (suc n) h = ap₂ (λ (x y : List A). x ++ y) (gather-same f g n (λ k l. h k (omega arith))) (h n (le-refl (suc n)))
 
   module _ (f : ℕ → List A) where
-    gather-more : (k n : ℕ) → k ≤ n → length (gather f k) ≤ length (gather f n)
+    pub gather-more : (k n : ℕ) → k ≤ n → length (gather f k) ≤ length (gather f n)
     unfolding gather
     gather-more k zero h = let e : k ≡ 0 = omega arith in rw e (le-refl _)
     gather-more k (suc n) h = ⊎-elim

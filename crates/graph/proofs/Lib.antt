@@ -14,3 +14,4 @@ pub mod Settles
 pub mod Rows
 pub mod Tests
 pub mod EvaluateRefusals
+pub mod Checks

@@ -16,7 +16,6 @@ use Rattle.graph.proofs.Settles.{Settles, gives, clears, settles-lowest
 
 -- the rows' numbers ascend, all above n
 unfoldable pub ascends : ℕ → List Row → Bool
-unfolding numberOf
 ascends n [] = true
 ascends n (row ∷ rows) = ltb n (numberOf (row .refusal)) && ascends (numberOf (row .refusal)) rows
 

@@ -33,7 +33,6 @@ use Rattle.graph.proofs.Lists.{at-most-or-above}
 
 -- the number of an answer: 0 where nothing is refused
 numberAs : Option Refusal → ℕ
-unfolding numberOf
 numberAs none = 0
 numberAs (some r) = numberOf r
 

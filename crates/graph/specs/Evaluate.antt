@@ -13,7 +13,7 @@ use Rattle.graph.specs.declared.evaluate.Evaluated.{Evaluated}
 use Rattle.graph.specs.declared.evaluate.Evaluated.the-variants.{Outputs, Refused}
 use Rattle.graph.specs.Lists.{all}
 use Rattle.graph.specs.Lent.{short, written, Effect, _leaving_}
-use Rattle.graph.specs.Refuse.{Row, _⇒_, firstRefusal, Outcome, accepted, refused, numberOf}
+use Rattle.graph.specs.Refuse.{Row, _⇒_, firstRefusal, Outcome, accepted, refused}
 use Rattle.graph.specs.Graph.{Net, Graph, free, last, sinks, wellFormed, WellFormed}
 use Rattle.graph.specs.Literal.{varOf, isOdd}
 use Rattle.graph.specs.Sweep.{bools, turned, litValue, values, valueAt}
@@ -78,6 +78,5 @@ evaluateEffect g vs lent =
     ]
 
 unfoldable pub evaluatedOutcome : Evaluated → Outcome
-unfolding numberOf
 evaluatedOutcome (Outputs n) = accepted (n ∷ [])
 evaluatedOutcome (Refused r) = refused r

@@ -20,6 +20,9 @@ pub record Buffers : Type 0 where
   pub gates : List ℕ
   pub outputs : List ℕ
 
+abbrev pub buffersOf : List ℕ → List ℕ → Buffers
+buffersOf gs os = record { gates = gs; outputs = os }
+
 -- they need two words a gate and one an output
 unfoldable pub noRoomFor : Graph → Buffers → Bool
 unfolding short

@@ -27,7 +27,7 @@ use Rattle.graph.specs.declared.refusal.Refusal.the-variants.{
 }
 
 -- document 01's numbers
-unfoldable pub numberOf : Refusal → ℕ
+abbrev pub numberOf : Refusal → ℕ
 numberOf BadHeader = 1
 numberOf TooLarge = 2
 numberOf Latches = 3

@@ -1,5 +1,6 @@
 // What a graph is and means: literals and variables, evaluating, and why a call refuses.
 mod evaluate;
+pub mod inner;
 mod lit;
 mod refusal;
 

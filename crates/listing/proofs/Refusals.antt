@@ -42,7 +42,7 @@ module _ (g : Graph) (root : ℕ) (w : Leaves) (lent : List Candidate) where
   listRefusals = windowRefusals g root w ++ (tooShort ⇒ NoRoom ∷ [])
 
   list-complete : (q : Refusal) → ListGiven g root w lent q → WindowGiven g root w q ⊎ (¬ Silent (numberOf q) listRefusals)
-  unfolding windowRefusals rootRefusals numberOf
+  unfolding windowRefusals rootRefusals
   list-complete q (by-window h) = inl h
   list-complete q (no-room h) = inr (λ s. test-off _ short-on (s .1 .1 .1 .1 .0 refl) h)
 
@@ -82,7 +82,6 @@ module _ (g : Graph) (root : ℕ) (w : Leaves) (lent : List Candidate) where
   -- NO ROOM is said of the list alone, since a window's refusals have lower numbers
   pub no-room-counts : (listedOutcome ((listEffect g root w lent) .answer)) .number ≡ numberOf NoRoom
       → (listedOutcome ((listEffect g root w lent) .answer)) .values ≡ length (listed g root w) ∷ []
-  unfolding numberOf
   no-room-counts n = go (firstRefusal (windowRefusals g root w)) refl tooShort refl
     where
       go : (o : Option Refusal) → firstRefusal (windowRefusals g root w) ≡ o → (t : Bool) → tooShort ≡ t

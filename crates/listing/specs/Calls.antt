@@ -32,7 +32,6 @@ listEffect g root w lent =
     elim (firstRefusal (windowRefusals g root w)) [ some r ↦ Listed.Refused r leaving lent | none ↦ withList (listed g root w) lent ]
 
 unfoldable pub listedOutcome : Listed → Outcome
-unfolding numberOf
 listedOutcome (Listed.Records n) = accepted (n ∷ [])
 listedOutcome (Listed.NoRoom n) = record { number = numberOf NoRoom; values = n ∷ [] }
 listedOutcome (Listed.Refused r) = refused r

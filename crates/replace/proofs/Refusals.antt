@@ -58,7 +58,7 @@ module _ (g : Graph) (root : ℕ) (w : Leaves) (p : Proposal) where
   module _ (b : Buffers) where
     -- the four rows of a window stand before the others
     apply-complete : (q : Refusal) → ApplyGiven g root w p b q → WindowGiven g root w q ⊎ (¬ Silent (numberOf q) (applyRefusals g root w p b))
-    unfolding applyRefusals windowRefusals rootRefusals numberOf
+    unfolding applyRefusals windowRefusals rootRefusals
     apply-complete q (by-window h) = inl h
     apply-complete q (bad-candidate h) = inr (λ s. let t = s .1 .1 .1 .1 in h (denial-off _ (allowed-iff (g .net) root w p) (t .0 refl)))
     apply-complete q (not-equal h) = inr (λ s. let t = s .1 .1 .1 .1 in h (denial-off _ (equal-iff g root w p) (t .1 .0 refl)))
@@ -103,7 +103,7 @@ module _ (g : Graph) (root : ℕ) (w : Leaves) (p : Proposal) where
 
     -- a proposal that is not refused is all that is asked
     pub apply-accepted : (appliedOutcome ((applyEffect g root w p b) .answer)) .number ≡ 0 → Accepted g root w p
-    unfolding applyRefusals numberOf
+    unfolding applyRefusals
     apply-accepted e =
         let parts = none-parts (windowRefusals g root w) _ (apply-none-given e) in
         let s = none-silent (numberOf NoGain) _ (parts .1) in
@@ -116,7 +116,6 @@ module _ (g : Graph) (root : ℕ) (w : Leaves) (p : Proposal) where
 
     -- where the order would be lost a lower refusal holds
     never-given : Lowest (ApplyGiven g root w p b) OrderLost → ¬ ApplyGiven g root w p b OrderLost
-    unfolding numberOf
     never-given l (by-window h) = absurd (omega (arith, window-at-most g root w h))
     never-given l (order-lost h) =
         l .none-lower BadGraph (omega arith) (by-window (by-root (bad-graph (λ ok.

@@ -9,7 +9,7 @@ use lib.ListN.{length}
 use Rattle.graph.specs.declared.refusal.Refusal.{Refusal}
 use Rattle.graph.specs.declared.refusal.Refusal.the-variants.{BadCandidate, NotEqual, NoGain, OrderLost, NoRoom}
 use Rattle.graph.specs.Lent.{Buffers, noRoomFor, NoRoomFor, storedIn, Effect, _leaving_}
-use Rattle.graph.specs.Refuse.{Row, _⇒_, firstRefusal, Outcome, accepted, refused, numberOf}
+use Rattle.graph.specs.Refuse.{Row, _⇒_, firstRefusal, Outcome, accepted, refused}
 use Rattle.graph.specs.Use.{usedGates}
 use Rattle.graph.specs.Graph.{Graph, size, wellFormed, WellFormed}
 use Rattle.window.specs.declared.Leaves.{Leaves}
@@ -55,6 +55,5 @@ applyEffect g root w p b =
     ]
 
 unfoldable pub appliedOutcome : Applied → Outcome
-unfolding numberOf
 appliedOutcome (Applied.Graph gates outputs) = accepted (gates ∷ outputs ∷ [])
 appliedOutcome (Applied.Refused r) = refused r

@@ -19,7 +19,7 @@ module _ (g : Graph) (b : RunBuffers) where
   room-iff = or-iff _ _ (no-room-iff g (b .result)) (no-room-iff g (b .work))
 
   run-complete : (q : Refusal) → RunGiven g b q → ¬ Silent (numberOf q) (runRefusals g b)
-  unfolding runRefusals numberOf
+  unfolding runRefusals
   run-complete q (bad-graph h) s = h (denial-off _ (well-formed-iff g) (s .0 refl))
   run-complete q (no-room-for-result h) s = test-off _ room-iff (s .1 .0 refl) (inl h)
   run-complete q (no-room-for-work h) s = test-off _ room-iff (s .1 .0 refl) (inr h)

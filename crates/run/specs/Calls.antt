@@ -9,7 +9,7 @@ use Rattle.graph.specs.declared.refusal.Refusal.{Refusal}
 use Rattle.graph.specs.declared.refusal.Refusal.the-variants.{BadGraph, NoRoom}
 use Rattle.graph.specs.Lists.{filled}
 use Rattle.graph.specs.Lent.{Buffers, noRoomFor, NoRoomFor, storedIn, Effect, _leaving_}
-use Rattle.graph.specs.Refuse.{Row, _⇒_, firstRefusal, Outcome, accepted, refused, numberOf}
+use Rattle.graph.specs.Refuse.{Row, _⇒_, firstRefusal, Outcome, accepted, refused}
 use Rattle.graph.specs.Graph.{Graph, size, wellFormed, WellFormed}
 use Rattle.run.specs.declared.Ran.{Ran}
 use Rattle.run.specs.Run.{run}
@@ -47,6 +47,5 @@ runEffect g b =
     ]
 
 unfoldable pub ranOutcome : Ran → Outcome
-unfolding numberOf
 ranOutcome (Ran.Finished gates made) = accepted (gates ∷ made ∷ [])
 ranOutcome (Ran.Refused r) = refused r

@@ -83,7 +83,6 @@ first-wrong-iff needs t r = (lines-wrong needs t r, wrong-lines)
 
 -- it is a BAD LINE or a BAD LITERAL
 pub wrong-number : {needs : List Needed} {t : List ℕ} {r : Refusal} → FirstWrong needs t r → (4 < numberOf r) × (numberOf r < 7)
-unfolding numberOf
 wrong-number (bad-rest e) = omega arith
 wrong-number (misshapen h) = omega arith
 wrong-number (breaks s e) = omega arith

@@ -7,7 +7,7 @@ use mathlib.Core.Option.{none, some}
 use lib.ListN.{length}
 use Rattle.graph.specs.declared.refusal.Refusal.the-variants.{BadGraph, NoRoom}
 use Rattle.graph.specs.Lent.{short, written, Buffers, noRoomFor, storedIn, Effect, _leaving_}
-use Rattle.graph.specs.Refuse.{Row, _⇒_, firstRefusal, Outcome, accepted, refused, numberOf}
+use Rattle.graph.specs.Refuse.{Row, _⇒_, firstRefusal, Outcome, accepted, refused}
 use Rattle.graph.specs.Graph.{Graph, size, wellFormed}
 use Rattle.text.specs.declared.ReadText.{ReadText}
 use Rattle.text.specs.declared.WrittenText.{WrittenText}
@@ -31,7 +31,6 @@ readEffect t b =
     ]
 
 unfoldable pub readOutcome : ReadText → Outcome
-unfolding numberOf
 readOutcome (ReadText.Graph inputs gates outputs) = accepted (inputs ∷ gates ∷ outputs ∷ [])
 readOutcome (ReadText.Refused r) = refused r
 
@@ -51,6 +50,5 @@ writeEffect g lent =
     ]
 
 unfoldable pub writtenOutcome : WrittenText → Outcome
-unfolding numberOf
 writtenOutcome (WrittenText.Bytes n) = accepted (n ∷ [])
 writtenOutcome (WrittenText.Refused r) = refused r

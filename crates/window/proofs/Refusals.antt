@@ -52,7 +52,7 @@ module _ (g : Graph) (root : ℕ) where
   known-root e f = let ok = known-graph g e in (ok, denial-off _ (root-iff ok) f)
 
   root-complete : (q : Refusal) → RootGiven g root q → ¬ Silent (numberOf q) (rootRefusals g root)
-  unfolding rootRefusals numberOf
+  unfolding rootRefusals
   root-complete q (bad-graph h) s = h (known-graph g (s .0 refl))
   root-complete q (bad-root h) s = h (known-root (s .0 refl) (s .1 .0 refl) .1)
 
@@ -86,7 +86,7 @@ module _ (g : Graph) (root : ℕ) (w : Leaves) where
   cut-iff ok used = covered-iff g (ok .lawful) w root (used .is-gate .within)
 
   silent-window : Silent (numberOf NotACut) (windowRefusals g root w) → Window g root w
-  unfolding windowRefusals rootRefusals numberOf
+  unfolding windowRefusals rootRefusals
   silent-window s =
       let known = known-root g root (s .0 refl) (s .1 .0 refl) in
       record {
@@ -100,7 +100,7 @@ module _ (g : Graph) (root : ℕ) (w : Leaves) where
   window-accepted e = silent-window (none-silent (numberOf NotACut) (windowRefusals g root w) e)
 
   window-complete : (q : Refusal) → WindowGiven g root w q → RootGiven g root q ⊎ (¬ Silent (numberOf q) (windowRefusals g root w))
-  unfolding windowRefusals rootRefusals numberOf
+  unfolding windowRefusals rootRefusals
   window-complete q (by-root h) = inl h
   window-complete q (bad-leaves h) = inr (λ s. h (denial-off _ (well-set-iff root w) (s .1 .1 .0 refl)))
   window-complete q (not-a-cut h) = inr (λ s. h (silent-window s .cut))
@@ -118,7 +118,6 @@ module _ (g : Graph) (root : ℕ) (w : Leaves) where
 
   -- a window's refusals end with NOT A CUT
   pub window-at-most : {q : Refusal} → WindowGiven g root w q → numberOf q ≤ numberOf NotACut
-  unfolding numberOf
   window-at-most (by-root (bad-graph h)) = omega arith
   window-at-most (by-root (bad-root h)) = omega arith
   window-at-most (bad-leaves h) = omega arith

@@ -6,7 +6,7 @@ use mathlib.Core.List.{List, [], _∷_, _++_}
 use mathlib.Core.Option.{none, some}
 use Rattle.graph.specs.declared.refusal.Refusal.{Refusal}
 use Rattle.graph.specs.declared.refusal.Refusal.the-variants.{BadGraph, BadRoot, BadLeaves, NotACut}
-use Rattle.graph.specs.Refuse.{Row, _⇒_, firstRefusal, Outcome, accepted, refused, numberOf}
+use Rattle.graph.specs.Refuse.{Row, _⇒_, firstRefusal, Outcome, accepted, refused}
 use Rattle.graph.specs.Graph.{Graph, wellFormed, WellFormed}
 use Rattle.graph.specs.Use.{inUse, InUse}
 use Rattle.window.specs.declared.Leaves.{Leaves}
@@ -39,7 +39,6 @@ pickAnswer g root =
     ]
 
 unfoldable pub verdictOutcome : Verdict → Leaves → Outcome
-unfolding numberOf
 verdictOutcome Verdict.Accepted w = accepted (w .count ∷ w .places)
 verdictOutcome (Verdict.Refused r) w = refused r
 
@@ -65,6 +64,5 @@ unfolding windowRefusals firstRefusal table
 tableAnswer g root w = elim (firstRefusal (windowRefusals g root w)) [ some r ↦ RootTable.Refused r | none ↦ RootTable.Table (table (g .net) w root) ]
 
 unfoldable pub tableOutcome : RootTable → Outcome
-unfolding numberOf
 tableOutcome (RootTable.Table t) = accepted (t ∷ [])
 tableOutcome (RootTable.Refused r) = refused r

@@ -1,0 +1,66 @@
+-- `graph::inner::well_formed` meets its contract: a broken rule decides, and where the others are kept the gates do.
+-- Assumes nothing.
+use mathlib.Core.Path.{sym, _∙_}
+use native.Mathlib.Omega.{arith}
+use borrow.Author.Tests.{ne-eqb, lt-leb, not-true, not-false}
+use Rattle.graph.specs.Graph.{rules}
+use Rattle.graph.proofs.Checks.{well-fails, well-fails-outputs, well-by-gates}
+use borrow.Author.Needs.{needs}
+use Rattle.graph.proofs.inner.well_formed.Statement.{statement}
+use Rattle.graph.proofs.inner.well_formed.Tie as tie
+
+returns : tie.Need-returns
+unfolding rules
+returns c = sym (well-fails _ 0 (ne-eqb _ _ (c .if1 .taken)))
+
+returns-2 : tie.Need-returns-2
+unfolding rules
+returns-2 c = sym (well-fails _ 3 (lt-leb _ _ (c .if2 .taken)))
+
+returns-3 : tie.Need-returns-3
+unfolding rules
+returns-3 c = sym (well-fails _ 4 (lt-leb _ _ (c .if3 .taken)))
+
+returns-4 : tie.Need-returns-4
+unfolding rules
+returns-4 c = sym (well-fails _ 5 (lt-leb _ _ (c .if4 .taken)))
+
+add-outputs-ok : tie.Need-add-outputs-ok
+add-outputs-ok c = search needs
+
+mul-outputs-ok : tie.Need-mul-outputs-ok
+mul-outputs-ok c = search needs
+
+add-outputs-ok-2 : tie.Need-add-outputs-ok-2
+add-outputs-ok-2 c = search needs
+
+outputs-ok-requires : tie.Need-outputs-ok-requires
+outputs-ok-requires c κs = search needs
+
+returns-5 : tie.Need-returns-5
+returns-5 c = sym (well-fails-outputs _ _ _ (sym (c .before .outputs-ok .ensures) ∙ not-true _ (c .if5 .taken)))
+
+gates-ok-requires : tie.Need-gates-ok-requires
+gates-ok-requires c κs = search needs
+
+returns-6 : tie.Need-returns-6
+returns-6 c =
+    c .gates-ok .ensures
+    ∙ sym
+    (well-by-gates _ _ _ (omega arith) (sym (c .before .before .outputs-ok .ensures) ∙ not-false _ (c .before .if5 .left)) (omega arith) (omega arith) (omega arith))
+
+pub well-formed-spec : {M : Type 1} → statement M
+well-formed-spec =
+    tie.close
+    (tie.spec
+    returns
+    returns-2
+    returns-3
+    returns-4
+    add-outputs-ok
+    mul-outputs-ok
+    add-outputs-ok-2
+    outputs-ok-requires
+    returns-5
+    gates-ok-requires
+    returns-6)
