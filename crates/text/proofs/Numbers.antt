@@ -38,11 +38,11 @@ digits-same (suc k) (suc j) n h l = ⊎-elim
     (λ (o : n < 10). digits-one k n o ∙ sym (digits-one j n o))
     (at-most-or-above 10 n)
 
-decimal-one : (n : ℕ) → n < 10 → decimal n ≡ digit n ∷ []
+pub decimal-one : (n : ℕ) → n < 10 → decimal n ≡ digit n ∷ []
 unfolding decimal
 decimal-one n h = digits-one n n h
 
-decimal-more : (n : ℕ) → 10 ≤ n → decimal n ≡ decimal (n / 10) ++ (digit (n % 10) ∷ [])
+pub decimal-more : (n : ℕ) → 10 ≤ n → decimal n ≡ decimal (n / 10) ++ (digit (n % 10) ∷ [])
 unfolding decimal
 decimal-more n h = digits-more n n h ∙ ap (λ (bs : List ℕ). bs ++ (digit (n % 10) ∷ [])) (digits-same n (suc (n / 10)) (n / 10) (omega arith) (le-refl (suc (n / 10))))
 
@@ -70,10 +70,10 @@ record Writes (bs : List ℕ) (n : ℕ) : Type 0 where
   value : valueFrom 0 bs ≡ n
 
 module _ (b : ℕ) where
-  digit-least : isDigit b ≡ true → 48 ≤ b
+  pub digit-least : isDigit b ≡ true → 48 ≤ b
   digit-least e = leb-true 48 b (and-left (leb 48 b) (leb b 57) e)
 
-  digit-most : isDigit b ≡ true → b ≤ 57
+  pub digit-most : isDigit b ≡ true → b ≤ 57
   digit-most e = leb-true b 57 (and-right (leb 48 b) (leb b 57) e)
 
   is-digit : 48 ≤ b → b ≤ 57 → isDigit b ≡ true

@@ -17,10 +17,11 @@ use Rattle.graph.specs.Refuse.{firstRefusal, numberOf}
 use Rattle.graph.specs.Graph.{Graph, mostInputs, mostOutputs, mostGates}
 use Rattle.graph.proofs.Rows.{none-silent}
 use Rattle.graph.proofs.Tests.{test-off, denial-off, or-iff, ltb-iff, eqb-iff}
+use Rattle.text.specs.declared.header.Header.{Header}
 use Rattle.text.specs.Number.{Front}
 use Rattle.text.specs.Line.{line}
 use Rattle.text.specs.States.{aag, textWith}
-use Rattle.text.specs.Reading.{Stated, Header, headerOf, headerLine, mostBytes, headerRefusals, linesNeeded, Lines, wrong, right, readLines, graphRead, Reading, refuses, yields, readBody, reading}
+use Rattle.text.specs.Reading.{Stated, headerOf, headerLine, mostBytes, headerRefusals, linesNeeded, Lines, wrong, right, readLines, graphRead, Reading, refuses, yields, readBody, reading}
 use Rattle.text.specs.Refusals.{Headed}
 use Rattle.text.proofs.Cases.{refuses-not-yields, yields-injective}
 use Rattle.text.proofs.Lines.{header-line-iff}
@@ -56,7 +57,7 @@ module _ (t : List ℕ) (h : Header) where
   not-over m n f = omega arith
 
   header-within : firstRefusal (headerRefusals t h) ≡ none → WithinLimits t h
-  unfolding headerRefusals numberOf
+  unfolding headerRefusals
   header-within e =
       let s = none-silent (numberOf BadCount) (headerRefusals t h) e in
       let not-large = test-off _ large-iff (s .0 refl) in
@@ -81,7 +82,7 @@ module _ (t : List ℕ) (h : Header) where
         eq-eqb (h .highest) (h .inputs + h .gates) (a .adds-up),
       )
 
-  header-within-iff : (firstRefusal (headerRefusals t h) ≡ none) ↔ WithinLimits t h
+  pub header-within-iff : (firstRefusal (headerRefusals t h) ≡ none) ↔ WithinLimits t h
   header-within-iff = (header-within, within-header)
 
 -- ---- what is read is stated

@@ -19,9 +19,10 @@ use Rattle.graph.proofs.WellFormed.{well-formed-iff}
 use Rattle.graph.proofs.Settles.{numberOf-not-zero, Settles, gives, clears, settles-then, settles-answers, shown}
 use Rattle.graph.proofs.Rows.{Decides, Silent, ascends, first-settles, first-none}
 use Rattle.graph.proofs.Tests.{denial-on, denial-off, test-off, short-iff, no-room-iff}
+use Rattle.text.specs.declared.header.Header.{Header}
 use Rattle.text.specs.Number.{Front, front}
 use Rattle.text.specs.States.{States, textOf}
-use Rattle.text.specs.Reading.{Header, headerOf, headerLine, headerRefusals, Needed, linesNeeded, Lines, wrong, right, readLines, refuses, yields, graphRead, readBody, reading}
+use Rattle.text.specs.Reading.{headerOf, headerLine, headerRefusals, Needed, linesNeeded, Lines, wrong, right, readLines, refuses, yields, graphRead, readBody, reading}
 use Rattle.text.specs.Refusals.{Headed, FirstWrong, ReadGiven, WriteGiven}
 use Rattle.text.specs.Calls.{withRoom, readEffect, readOutcome, writeRefusals, writeEffect, writtenOutcome}
 use Rattle.text.proofs.Lines.{header-line-iff}
@@ -58,7 +59,7 @@ module _ (t : List ℕ) (b : Buffers) (ns rest : List ℕ) (e : headerLine t ≡
     by-room : {g : Graph} → States t g → NoRoomFor g b → Case NoRoom
 
   case : {q : Refusal} → ReadGiven t b q → Case q
-  unfolding headerRefusals numberOf
+  unfolding headerRefusals
   case (ReadGiven.bad-header n) = absurd (n ns rest headed)
   case (ReadGiven.many-inputs h k) =
       early refl (λ s. test-off _ (large-iff t counts) (s .0 refl) (inl (inl (inl (as-read (λ ms u. mostInputs < (headerOf ms) .inputs) h k)))))
@@ -79,13 +80,12 @@ module _ (t : List ℕ) (b : Buffers) (ns rest : List ℕ) (e : headerLine t ≡
   Early q = ReadGiven t b q × (numberOf q ≤ 4)
 
   early-complete : {q : Refusal} → Case q → numberOf q ≤ 4 → ¬ Silent (numberOf q) rows
-  unfolding numberOf
   early-complete (early k n) l = n
   early-complete (by-line w) l = absurd (omega (arith, wrong-number w))
   early-complete (by-room h k) l = absurd (omega arith)
 
   header-decides : Decides Early rows
-  unfolding Early headerRefusals ascends numberOf
+  unfolding Early headerRefusals ascends
   header-decides = record {
     ascending = refl;
     sound = (
@@ -118,7 +118,7 @@ module _ (t : List ℕ) (b : Buffers) (ns rest : List ℕ) (e : headerLine t ≡
   module _ (c : (q : Refusal) → ¬ Early q) where
     -- where nothing early is given, the first wrong line is the lowest refusal
     line-lowest : (r : Refusal) → FirstWrong needs rest r → Lowest (ReadGiven t b) r
-    unfolding Early numberOf
+    unfolding Early
     line-lowest r w = record { holds = ReadGiven.wrong-line headed w; none-lower = λ q l d. go d l (case d) }
       where
         go : {q : Refusal} → ReadGiven t b q → numberOf q < numberOf r → ¬ Case q
@@ -172,7 +172,7 @@ module _ (t : List ℕ) (b : Buffers) (ns rest : List ℕ) (e : headerLine t ≡
 
 module _ (t : List ℕ) (b : Buffers) where
   no-header : headerLine t ≡ none → Settles (ReadGiven t b) (refusalOf (withRoom (reading t) b))
-  unfolding reading withRoom refusalOf numberOf
+  unfolding reading withRoom refusalOf
   no-header e =
       rw (e, reading)
       (gives (record {
@@ -203,7 +203,7 @@ module _ (t : List ℕ) (b : Buffers) where
 
 module _ (g : Graph) (lent : List ℕ) where
   write-complete : (q : Refusal) → WriteGiven g lent q → ¬ Silent (numberOf q) (writeRefusals g lent)
-  unfolding writeRefusals numberOf
+  unfolding writeRefusals
   write-complete q (WriteGiven.bad-graph h) s = h (denial-off _ (well-formed-iff g) (s .0 refl))
   write-complete q (WriteGiven.no-room h) s = test-off _ (short-iff (length (textOf g)) lent) (s .1 .0 refl) h
 

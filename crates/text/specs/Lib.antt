@@ -4,3 +4,4 @@ pub mod States
 pub mod Reading
 pub mod Refusals
 pub mod Calls
+pub mod Places

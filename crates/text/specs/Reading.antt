@@ -11,6 +11,7 @@ use Rattle.graph.specs.declared.refusal.Refusal.the-variants.{BadHeader, TooLar
 use Rattle.graph.specs.Lists.{gather}
 use Rattle.graph.specs.Refuse.{Row, _⇒_, firstRefusal}
 use Rattle.graph.specs.Graph.{Graph, graphOf, WellFormed, largerFirst, mostInputs, mostOutputs, mostGates}
+use Rattle.text.specs.declared.header.Header.{Header}
 use Rattle.text.specs.Number.{Front}
 use Rattle.text.specs.Line.{_>>=_, after, lineOf}
 use Rattle.text.specs.States.{aag, skipped, States}
@@ -18,13 +19,6 @@ use Rattle.text.specs.States.{aag, skipped, States}
 -- ---- the first line
 
 -- the counts that a header states: M I L O A
-pub record Header : Type 0 where
-  pub highest : ℕ
-  pub inputs : ℕ
-  pub latches : ℕ
-  pub outputs : ℕ
-  pub gates : ℕ
-
 abbrev pub headerOf : List ℕ → Header
 headerOf ns = record { highest = getD ns 0 0; inputs = getD ns 1 0; latches = getD ns 2 0; outputs = getD ns 3 0; gates = getD ns 4 0 }
 
@@ -67,12 +61,18 @@ unfoldable pub gateNeeded : ℕ → Needed
 gateNeeded v = record { numbers = 3; rule = λ ns. eqb (getD ns 0 0) (2 * v) && (ltb (getD ns 1 0) (2 * v) && ltb (getD ns 2 0) (2 * v)) }
 
 -- the lines after the first, in order
+abbrev pub inputsNeeded : Header → List Needed
+inputsNeeded h = gather (λ k. inputNeeded (suc k) ∷ []) (h .inputs)
+
+abbrev pub outputsNeeded : Header → List Needed
+outputsNeeded h = gather (λ k. outputNeeded h ∷ []) (h .outputs)
+
+abbrev pub gatesNeeded : Header → List Needed
+gatesNeeded h = gather (λ k. gateNeeded (suc (h .inputs + k)) ∷ []) (h .gates)
+
 unfoldable pub linesNeeded : Header → List Needed
 unfolding gather inputNeeded outputNeeded gateNeeded
-linesNeeded h =
-    gather (λ k. inputNeeded (suc k) ∷ []) (h .inputs)
-    ++ gather (λ k. outputNeeded h ∷ []) (h .outputs)
-    ++ gather (λ k. gateNeeded (suc (h .inputs + k)) ∷ []) (h .gates)
+linesNeeded h = inputsNeeded h ++ outputsNeeded h ++ gatesNeeded h
 
 -- the numbers of all the lines, or the refusal of the first that is not right
 pub data Lines : Type 0 where

@@ -1,0 +1,100 @@
+-- A section is read a line at a time: what one more line gives, and that a line that is not right decides for the whole section.
+-- Assumes nothing.
+use mathlib.Core.Path.{_≡_, refl, sym, ap, _∙_}
+use mathlib.Core.Bool.{Bool, true, false, cond}
+use mathlib.Core.List.{List, [], _∷_, _++_, append-assoc, append-nil}
+use mathlib.Core.Logic.{⊎-elim}
+use mathlib.Core.Option.{Option, none, some}
+use Prim.Native.Nat.{ℕ, zero, suc, _+_, _≤_, _<_}
+use native.Mathlib.Numerals.{add-one}
+use native.Mathlib.Omega.{arith}
+use Rattle.graph.specs.declared.refusal.Refusal.{Refusal}
+use Rattle.graph.specs.declared.refusal.Refusal.the-variants.{BadLine, BadLiteral}
+use Rattle.graph.specs.Lists.{gather}
+use Rattle.graph.proofs.Lists.{at-most-or-above}
+use Rattle.text.specs.Number.{Front, front}
+use Rattle.text.specs.Line.{lineOf}
+use Rattle.text.specs.Reading.{Needed}
+use Rattle.text.specs.Places.{Words, wrong, words, withWords, readWords}
+use Rattle.text.proofs.Gathered.{singles}
+
+-- ---- lines, and then more lines
+
+with-none : (x : Words) → withWords [] x ≡ x
+unfolding withWords
+with-none (wrong r) = refl
+with-none (words ws t) = refl
+
+-- words before others, in two steps or in one
+with-both : (vs ws : List ℕ) (x : Words) → withWords vs (withWords ws x) ≡ withWords (vs ++ ws) x
+unfolding withWords
+with-both vs ws (wrong r) = refl
+with-both vs ws (words us t) = ap (λ (zs : List ℕ). words zs t) (sym (append-assoc vs ws us))
+
+module _ (f : List ℕ → List ℕ) where
+  -- what more lines give, from where the words end
+  thenMore : List Needed → Words → Words
+  thenMore needs (wrong r) = wrong r
+  thenMore needs (words ws u) = withWords ws (readWords f needs u)
+
+  with-more : (vs : List ℕ) (needs : List Needed) (x : Words) → withWords vs (thenMore needs x) ≡ thenMore needs (withWords vs x)
+  unfolding withWords thenMore
+  with-more vs needs (wrong r) = refl
+  with-more vs needs (words ws t) = with-both vs ws (readWords f needs t)
+
+  read-append : (xs ys : List Needed) (t : List ℕ) → readWords f (xs ++ ys) t ≡ thenMore ys (readWords f xs t)
+  unfolding readWords thenMore
+  read-append [] ys t = sym (with-none (readWords f ys t))
+  read-append (x ∷ xs) ys t = go (lineOf (x .numbers) t) (read-append xs ys)
+    where
+      by-rule : (b : Bool) (y : Front (List ℕ)) → readWords f (xs ++ ys) (y .rest) ≡ thenMore ys (readWords f xs (y .rest))
+          → elim b [ true ↦ withWords (f (y .got)) (readWords f (xs ++ ys) (y .rest)) | false ↦ wrong BadLiteral ]
+          ≡ thenMore ys (elim b [ true ↦ withWords (f (y .got)) (readWords f xs (y .rest)) | false ↦ wrong BadLiteral ])
+      by-rule true y e = ap (withWords (f (y .got))) e ∙ with-more (f (y .got)) ys (readWords f xs (y .rest))
+      by-rule false y e = refl
+
+      go : (o : Option (Front (List ℕ))) → ((u : List ℕ) → readWords f (xs ++ ys) u ≡ thenMore ys (readWords f xs u))
+          → elim o [ none ↦ wrong BadLine | some y ↦ elim (x .rule (y .got)) [ true ↦ withWords (f (y .got)) (readWords f (xs ++ ys) (y .rest)) | false ↦ wrong BadLiteral ] ]
+          ≡ thenMore ys (elim o [ none ↦ wrong BadLine | some y ↦ elim (x .rule (y .got)) [ true ↦ withWords (f (y .got)) (readWords f xs (y .rest)) | false ↦ wrong BadLiteral ] ])
+      go none below = refl
+      go (some y) below = by-rule (x .rule (y .got)) y (below (y .rest))
+
+  -- ---- the first k of a section's lines
+
+  module _ (need : ℕ → Needed) (t : List ℕ) where
+    -- a line that is not right decides, however many follow
+    wrong-stays : (k n : ℕ) (r : Refusal) → k ≤ n → readWords f (singles need k) t ≡ wrong r → readWords f (singles need n) t ≡ wrong r
+    unfolding gather thenMore
+    wrong-stays k zero r h e = let z : k ≡ 0 = omega arith in rw z at e
+    wrong-stays k (suc n) r h e = ⊎-elim
+        (λ l. read-append (singles need n) (need n ∷ []) t ∙ ap (thenMore (need n ∷ [])) (wrong-stays k n r l e))
+        (λ l. let z : k ≡ suc n = omega arith in rw z at e)
+        (at-most-or-above k n)
+
+    one-more : (k : ℕ) (ws u : List ℕ) → readWords f (singles need k) t ≡ words ws u
+        → readWords f (singles need (suc k)) t ≡ withWords ws (readWords f (need k ∷ []) u)
+    unfolding gather thenMore
+    one-more k ws u e = read-append (singles need k) (need k ∷ []) t ∙ ap (thenMore (need k ∷ [])) e
+
+-- the words of the first k lines, and line k as the code finds it
+pub record AtLine (f : List ℕ → List ℕ) (need : ℕ → Needed) (t : List ℕ) (k : ℕ) (ws : List ℕ) (found : Bool) (ns rest : List ℕ) : Type 0 where
+  pub here : List ℕ
+  pub so-far : readWords f (singles need k) t ≡ words ws here
+  pub line : cond found (some (front ns rest)) none ≡ lineOf ((need k) .numbers) here
+
+module _ {f : List ℕ → List ℕ} {need : ℕ → Needed} {t : List ℕ} {k : ℕ} {ws : List ℕ} {found : Bool} {ns rest : List ℕ}
+    (l : AtLine f need t k ws found ns rest) where
+  pub line-missing : {n : ℕ} → k < n → found ≡ false → readWords f (singles need n) t ≡ wrong BadLine
+  unfolding readWords withWords
+  line-missing {n} h e = wrong-stays f need t (suc k) n BadLine h (one-more f need t k ws (l .here) (l .so-far) ∙ rw (sym (l .line), e, readWords))
+
+  pub line-broken : {n : ℕ} → k < n → found ≡ true → (need k) .rule ns ≡ false → readWords f (singles need n) t ≡ wrong BadLiteral
+  unfolding readWords withWords
+  line-broken {n} h e b = wrong-stays f need t (suc k) n BadLiteral h (one-more f need t k ws (l .here) (l .so-far) ∙ rw (sym (l .line), e, b, readWords))
+
+  pub line-right : found ≡ true → (need k) .rule ns ≡ true → readWords f (singles need (k + 1)) t ≡ words (ws ++ f ns) rest
+  unfolding readWords withWords
+  line-right e b =
+      rw add-one
+      (one-more f need t k ws (l .here) (l .so-far)
+      ∙ rw (sym (l .line), e, b, readWords) (ap (λ (vs : List ℕ). words (ws ++ vs) rest) (append-nil (f ns))))

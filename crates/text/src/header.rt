@@ -1,0 +1,140 @@
+// The first line: `aag M I L O A`, and what it alone decides.
+ghost use mathlib.Core.Path.{_≡_};
+ghost use mathlib.Core.Bool.{false};
+ghost use lib.ListN.{drop};
+ghost use Rattle.graph.specs.Refuse.{firstRefusal};
+ghost use Rattle.text.specs.Line.{after};
+ghost use Rattle.text.specs.States.{aag};
+ghost use Rattle.text.specs.Reading.{headerLine, headerRefusals};
+ghost use Rattle.text.specs.Places.{headerStep, byteStep, verdictIs};
+use crate::bytes::ByteStep;
+use crate::bytes::byte_at;
+use crate::line::number_and_end;
+use crate::line::number_and_space;
+use crate::reader::space_from;
+use graph::Refusal;
+
+// The counts M I L O A.
+pub struct Header {
+    pub highest: u32,
+    pub inputs: u32,
+    pub latches: u32,
+    pub outputs: u32,
+    pub gates: u32,
+}
+
+pub struct HeaderLine {
+    pub found: bool,
+    pub header: Header,
+    pub next: usize,
+}
+
+const MOST_BYTES: usize = 65535;
+
+const MOST_INPUTS: u32 = 64;
+
+const MOST_OUTPUTS: u32 = 64;
+
+const MOST_GATES: u32 = 1024;
+
+fn no_header_line() -> HeaderLine
+    ensures { λ r. ⌜ r .found ≡ false ⌝ }
+{
+    HeaderLine {
+        found: false,
+        header: Header {
+            highest: 0,
+            inputs: 0,
+            latches: 0,
+            outputs: 0,
+            gates: 0,
+        },
+        next: 0,
+    }
+}
+
+// `aag` and a space at the front of the text.
+fn aag_at_front(text: &[u8]) -> ByteStep
+    ensures { λ r. ⌜ byteStep (now (text .entry)) r ≡ after aag (now (text .entry)) ⌝ }
+{
+    let a = byte_at(text, 0, b'a');
+    if !a.found {
+        return a;
+    }
+    let aa = byte_at(text, a.next, b'a');
+    if !aa.found {
+        return aa;
+    }
+    let aag = byte_at(text, aa.next, b'g');
+    if !aag.found {
+        return aag;
+    }
+    space_from(text, aag.next)
+}
+
+pub fn header_line(text: &[u8]) -> HeaderLine
+    ensures { λ r. ⌜ headerStep (now (text .entry)) r ≡ headerLine (now (text .entry)) ⌝ }
+{
+    let start = aag_at_front(text);
+    if !start.found {
+        return no_header_line();
+    }
+    let highest = number_and_space(text, start.next);
+    if !highest.found {
+        return no_header_line();
+    }
+    let inputs = number_and_space(text, highest.next);
+    if !inputs.found {
+        return no_header_line();
+    }
+    let latches = number_and_space(text, inputs.next);
+    if !latches.found {
+        return no_header_line();
+    }
+    let outputs = number_and_space(text, latches.next);
+    if !outputs.found {
+        return no_header_line();
+    }
+    let gates = number_and_end(text, outputs.next);
+    HeaderLine {
+        found: gates.found,
+        header: Header {
+            highest: highest.value,
+            inputs: inputs.value,
+            latches: latches.value,
+            outputs: outputs.value,
+            gates: gates.value,
+        },
+        next: gates.next,
+    }
+}
+
+// What the counts say of the text: why it is refused, or that it may go on.
+pub enum Verdict {
+    Fine,
+    Refused(Refusal),
+}
+
+pub fn header_verdict(text: &[u8], header: Header) -> Verdict
+    ensures { λ r. ⌜ verdictIs r ≡ firstRefusal (headerRefusals (now (text .entry)) header) ⌝ }
+{
+    if MOST_INPUTS < header.inputs {
+        return Verdict::Refused(Refusal::TooLarge);
+    }
+    if MOST_OUTPUTS < header.outputs {
+        return Verdict::Refused(Refusal::TooLarge);
+    }
+    if MOST_GATES < header.gates {
+        return Verdict::Refused(Refusal::TooLarge);
+    }
+    if MOST_BYTES < text.len() {
+        return Verdict::Refused(Refusal::TooLarge);
+    }
+    if header.latches != 0 {
+        return Verdict::Refused(Refusal::Latches);
+    }
+    if header.highest != header.inputs + header.gates {
+        return Verdict::Refused(Refusal::BadCount);
+    }
+    Verdict::Fine
+}

@@ -1,0 +1,56 @@
+// The text reader: it reads on from its place in the lent text and copies nothing.
+// It is made where something is read; what comes back holds the next place.
+ghost use mathlib.Core.Path.{_≡_};
+ghost use mathlib.Core.List.{[], _∷_};
+ghost use lib.ListN.{drop};
+ghost use Rattle.text.specs.Line.{space, lineFeed, after};
+ghost use Rattle.text.specs.Number.{number};
+ghost use Rattle.text.specs.Places.{byteStep, numberStep};
+use crate::bytes::ByteStep;
+use crate::bytes::line_end_at;
+use crate::bytes::space_at;
+use crate::number::NumberStep;
+use crate::number::number_at;
+
+pub struct TextReader<'a> {
+    pub text: &'a [u8],
+    pub at: usize,
+}
+
+impl<'a> TextReader<'a> {
+    pub fn number(self) -> NumberStep
+        ensures { λ r. ⌜ numberStep (now (self .entry .text)) r ≡ number (drop (self .entry .at) (now (self .entry .text))) ⌝ }
+    {
+        number_at(self.text, self.at)
+    }
+
+    pub fn space(self) -> ByteStep
+        ensures { λ r. ⌜ byteStep (now (self .entry .text)) r ≡ after (space ∷ []) (drop (self .entry .at) (now (self .entry .text))) ⌝ }
+    {
+        space_at(self.text, self.at)
+    }
+
+    pub fn line_end(self) -> ByteStep
+        ensures { λ r. ⌜ byteStep (now (self .entry .text)) r ≡ after (lineFeed ∷ []) (drop (self .entry .at) (now (self .entry .text))) ⌝ }
+    {
+        line_end_at(self.text, self.at)
+    }
+}
+
+pub fn number_from(text: &[u8], at: usize) -> NumberStep
+    ensures { λ r. ⌜ numberStep (now (text .entry)) r ≡ number (drop at (now (text .entry))) ⌝ }
+{
+    TextReader { text, at }.number()
+}
+
+pub fn space_from(text: &[u8], at: usize) -> ByteStep
+    ensures { λ r. ⌜ byteStep (now (text .entry)) r ≡ after (space ∷ []) (drop at (now (text .entry))) ⌝ }
+{
+    TextReader { text, at }.space()
+}
+
+pub fn line_end_from(text: &[u8], at: usize) -> ByteStep
+    ensures { λ r. ⌜ byteStep (now (text .entry)) r ≡ after (lineFeed ∷ []) (drop at (now (text .entry))) ⌝ }
+{
+    TextReader { text, at }.line_end()
+}
