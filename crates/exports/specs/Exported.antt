@@ -1,0 +1,22 @@
+-- The public calls in numbers: document 01's number and the values that come with it, over what was lent.
+-- Assumes nothing.
+use Prim.Native.Nat.{ℕ}
+use mathlib.Core.List.{List}
+use Rattle.graph.specs.Refuse.{Outcome}
+use Rattle.graph.specs.Graph.{graphOf}
+use Rattle.graph.specs.Lent.{Buffers, buffersOf, Effect}
+use Rattle.text.specs.declared.ReadText.{ReadText}
+use Rattle.text.specs.declared.WrittenText.{WrittenText}
+use Rattle.text.specs.Calls.{readEffect, readOutcome, writeEffect, writtenOutcome}
+
+abbrev pub reads : List ℕ → List ℕ → List ℕ → Effect ReadText Buffers
+reads text gates outputs = readEffect text (buffersOf gates outputs)
+
+abbrev pub readNumbers : List ℕ → List ℕ → List ℕ → Outcome
+readNumbers text gates outputs = readOutcome ((reads text gates outputs) .answer)
+
+abbrev pub writes : ℕ → List ℕ → List ℕ → List ℕ → Effect WrittenText (List ℕ)
+writes inputs gates outputs bytes = writeEffect (graphOf inputs gates outputs) bytes
+
+abbrev pub writtenNumbers : ℕ → List ℕ → List ℕ → List ℕ → Outcome
+writtenNumbers inputs gates outputs bytes = writtenOutcome ((writes inputs gates outputs bytes) .answer)
