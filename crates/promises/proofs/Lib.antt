@@ -5,3 +5,4 @@ pub mod Meaning
 pub mod Search
 pub mod Stored
 pub mod Accepted
+pub mod Contracts
