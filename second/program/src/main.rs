@@ -1,7 +1,12 @@
 //! The lister and the shrinker, each of which reads one text from standard
 //! input; a refused text prints `refused`, the number and the name, parted by
-//! tabs. Beside them what the proved definitions are compared with.
+//! tabs. Beside them what the proved definitions and the proved calls are
+//! compared with.
 
+#[cfg(feature = "proved")]
+mod bench;
+#[cfg(feature = "proved")]
+mod compare_text;
 mod lister;
 mod shrinker;
 mod source;
@@ -13,10 +18,14 @@ use std::process::ExitCode;
 
 type Command = fn(&mut dyn Write) -> io::Result<()>;
 
-const COMMANDS: [(&str, Command); 3] = [
+const COMMANDS: &[(&str, Command)] = &[
     ("list", lister::list),
     ("shrink", shrinker::shrink),
     ("vectors", vectors::print),
+    #[cfg(feature = "proved")]
+    ("compare-text", compare_text::compare),
+    #[cfg(feature = "proved")]
+    ("bench", bench::bench),
 ];
 
 /// The command that the arguments name, if they name one and nothing else.
@@ -37,7 +46,8 @@ fn run(command: Command) -> io::Result<()> {
 
 fn main() -> ExitCode {
     let Some(command) = chosen() else {
-        eprintln!("usage: second list|shrink|vectors");
+        let names: Vec<&str> = COMMANDS.iter().map(|&(name, _)| name).collect();
+        eprintln!("usage: second {}", names.join("|"));
         return ExitCode::from(2);
     };
     match run(command) {

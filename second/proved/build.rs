@@ -1,0 +1,23 @@
+//! Has the kit prove the crate `exports` and write its archive, and links it.
+
+use std::path::Path;
+use std::process::Command;
+
+fn main() {
+    let root = Path::new(env!("CARGO_MANIFEST_DIR")).join("../..");
+    let made = Command::new("rt")
+        .args(["staticlib", "exports"])
+        .current_dir(&root)
+        .status();
+    match made {
+        Ok(status) if status.success() => {}
+        Ok(status) => panic!("rt staticlib exports: {status}"),
+        Err(error) => panic!("the Rattle kit's rt cannot be started: {error}"),
+    }
+    let archives = root.join("target/staticlib");
+    println!("cargo:rustc-link-search=native={}", archives.display());
+    println!("cargo:rustc-link-lib=static=exports");
+    for source in ["crates", "crates.txt"] {
+        println!("cargo:rerun-if-changed={}", root.join(source).display());
+    }
+}
