@@ -59,12 +59,15 @@ fn reads(name: &[u8], text: &[u8]) {
     reads_into(name, text, &mut gates, &mut outputs);
 }
 
-fn read_refusals() {
+fn read_bad_headers() {
     reads(b"leading zero", b"aag 01 1 0 0 0\n2\n");
     reads(b"empty text", b"");
     reads(b"65 inputs", b"aag 65 65 0 0 0\n");
     reads(b"latches", b"aag 1 0 1 0 0\n2 2\n");
     reads(b"count", b"aag 2 1 0 0 0\n2\n");
+}
+
+fn read_bad_lines() {
     reads(b"no line feed", b"aag 1 1 0 0 0\n2");
     reads(b"carriage return", b"aag 1 1 0 0 0\n2\r\n");
     reads(b"rest", b"aag 1 1 0 0 0\n2\nx");
@@ -136,7 +139,8 @@ fn writes(name: &[u8], inputs: usize, gates: &[u32], outputs: &[u32]) {
     writes_into(name, inputs, gates, outputs, &mut bytes);
 }
 
-fn write_runs() {
+// E1's text has 32 bytes.
+fn write_rooms() {
     let e1 = [4u32, 2, 6, 2];
     let out = [8u32];
     writes(b"E1 written", 2, &e1, &out);
@@ -144,25 +148,35 @@ fn write_runs() {
     writes_into(b"one byte short", 2, &e1, &out, &mut short);
     let mut exact = [b'.'; 32];
     writes_into(b"room just so", 2, &e1, &out, &mut exact);
-    let odd = [4u32, 2, 6];
-    writes(b"odd length", 2, &odd, &out);
-    let smaller_first = [2u32, 3];
-    let own = [4u32];
-    writes(b"smaller first", 1, &smaller_first, &own);
-    let none = [0u32; 0];
-    writes(b"65 inputs", 65, &none, &none);
     let mut tiny = [b'.'; 1];
     writes_into(b"7 and 16", 65, &e1, &out, &mut tiny);
-    let many = [0u32; 2050];
-    writes(b"1,025 gates", 0, &many, &none);
-    writes(b"1,024 gates, no room", 0, &many[..2048], &none);
+}
+
+fn write_bad_graphs() {
+    let none = [0u32; 0];
+    let own = [4u32];
+    let odd = [4u32, 2, 6];
+    writes(b"odd length", 2, &odd, &own);
+    let smaller_first = [2u32, 3];
+    writes(b"smaller first", 1, &smaller_first, &own);
+    writes(b"65 inputs", 65, &none, &none);
+}
+
+fn write_many_gates() {
+    let none = [0u32; 0];
+    let gates = [0u32; 2050];
+    writes(b"1,025 gates", 0, &gates, &none);
+    writes(b"1,024 gates, no room", 0, &gates[..2048], &none);
 }
 
 fn main() {
-    read_refusals();
+    read_bad_headers();
+    read_bad_lines();
     read_pairs();
     read_graphs();
     read_rooms();
     read_long();
-    write_runs();
+    write_rooms();
+    write_bad_graphs();
+    write_many_gates();
 }
