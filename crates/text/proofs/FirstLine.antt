@@ -10,7 +10,7 @@ use Rattle.graph.specs.declared.refusal.Refusal.{Refusal}
 use Rattle.graph.specs.declared.refusal.Refusal.the-variants.{BadHeader}
 use Rattle.graph.specs.Refuse.{firstRefusal}
 use Rattle.text.specs.declared.header.HeaderLine.{HeaderLine}
-use Rattle.text.specs.declared.header.Verdict.{Verdict}
+use Rattle.text.specs.declared.verdict.Verdict.{Verdict}
 use Rattle.text.specs.Number.{front}
 use Rattle.text.specs.Reading.{headerLine, headerRefusals, refuses, readBody, reading}
 use Rattle.text.specs.Places.{headerNumbers, headerStep, verdictIs, Limited}

@@ -12,10 +12,11 @@ use Rattle.graph.specs.declared.refusal.Refusal.{Refusal}
 use Rattle.graph.specs.declared.refusal.Refusal.the-variants.{BadLine, BadLiteral}
 use Rattle.graph.specs.Lists.{gather}
 use Rattle.graph.proofs.Lists.{at-most-or-above}
-use Rattle.text.specs.Number.{Front, front}
+use Rattle.text.specs.declared.verdict.Verdict.{Verdict}
+use Rattle.text.specs.Number.{Front}
 use Rattle.text.specs.Line.{lineOf}
 use Rattle.text.specs.Reading.{Needed}
-use Rattle.text.specs.Places.{Words, wrong, words, withWords, readWords}
+use Rattle.text.specs.Places.{Words, wrong, words, withWords, readWords, verdictIs, lineRefusal}
 use Rattle.text.proofs.Gathered.{singles}
 
 -- ---- lines, and then more lines
@@ -76,25 +77,34 @@ module _ (f : List ℕ → List ℕ) where
     unfolding gather thenMore
     one-more k ws u e = read-append (singles need k) (need k ∷ []) t ∙ ap (thenMore (need k ∷ [])) e
 
--- the words of the first k lines, and line k as the code finds it
-pub record AtLine (f : List ℕ → List ℕ) (need : ℕ → Needed) (t : List ℕ) (k : ℕ) (ws : List ℕ) (found : Bool) (ns rest : List ℕ) : Type 0 where
-  pub here : List ℕ
-  pub so-far : readWords f (singles need k) t ≡ words ws here
-  pub line : cond found (some (front ns rest)) none ≡ lineOf ((need k) .numbers) here
+  -- one line, misshapen or not, with its rule kept or not
+  one-line : (need : Needed) (u : List ℕ) (found kept : Bool) (x : Front (List ℕ)) → cond found (some x) none ≡ lineOf (need .numbers) u → kept ≡ need .rule (x .got)
+      → readWords f (need ∷ []) u ≡ elim (lineRefusal found kept) [ none ↦ words (f (x .got)) (x .rest) | some r ↦ wrong r ]
+  unfolding readWords withWords lineRefusal
+  one-line need u true true x line rule = rw (sym line, sym rule, readWords) (ap (λ (vs : List ℕ). words vs (x .rest)) (append-nil (f (x .got))))
+  one-line need u true false x line rule = rw (sym line, sym rule, readWords)
+  one-line need u false kept x line rule = rw (sym line, readWords)
 
-module _ {f : List ℕ → List ℕ} {need : ℕ → Needed} {t : List ℕ} {k : ℕ} {ws : List ℕ} {found : Bool} {ns rest : List ℕ}
-    (l : AtLine f need t k ws found ns rest) where
-  pub line-missing : {n : ℕ} → k < n → found ≡ false → readWords f (singles need n) t ≡ wrong BadLine
-  unfolding readWords withWords
-  line-missing {n} h e = wrong-stays f need t (suc k) n BadLine h (one-more f need t k ws (l .here) (l .so-far) ∙ rw (sym (l .line), e, readWords))
+-- the words of the first k lines, and the text after them
+pub record SoFar (f : List ℕ → List ℕ) (need : ℕ → Needed) (t : List ℕ) (k : ℕ) (ws rest : List ℕ) : Type 0 where
+  pub is : readWords f (singles need k) t ≡ words ws rest
 
-  pub line-broken : {n : ℕ} → k < n → found ≡ true → (need k) .rule ns ≡ false → readWords f (singles need n) t ≡ wrong BadLiteral
-  unfolding readWords withWords
-  line-broken {n} h e b = wrong-stays f need t (suc k) n BadLiteral h (one-more f need t k ws (l .here) (l .so-far) ∙ rw (sym (l .line), e, b, readWords))
+pub none-so-far : {f : List ℕ → List ℕ} {need : ℕ → Needed} {t : List ℕ} → SoFar f need t 0 [] t
+unfolding gather readWords
+none-so-far = record { is = refl }
 
-  pub line-right : found ≡ true → (need k) .rule ns ≡ true → readWords f (singles need (k + 1)) t ≡ words (ws ++ f ns) rest
-  unfolding readWords withWords
-  line-right e b =
-      rw add-one
-      (one-more f need t k ws (l .here) (l .so-far)
-      ∙ rw (sym (l .line), e, b, readWords) (ap (λ (vs : List ℕ). words (ws ++ vs) rest) (append-nil (f ns))))
+-- line k as the code finds it, the test of its rule, and then the verdict on it
+module _ {f : List ℕ → List ℕ} {need : ℕ → Needed} {t : List ℕ} {k : ℕ} {ws here : List ℕ} (so-far : SoFar f need t k ws here)
+    (found : Bool) {kept : Bool} (x : Front (List ℕ))
+    (line : cond found (some x) none ≡ lineOf ((need k) .numbers) here) (rule : kept ≡ (need k) .rule (x .got)) where
+  with-line : readWords f (singles need (suc k)) t ≡ withWords ws (elim (lineRefusal found kept) [ none ↦ words (f (x .got)) (x .rest) | some r ↦ wrong r ])
+  with-line = one-more f need t k ws here (so-far .is) ∙ ap (withWords ws) (one-line f (need k) here found kept x line rule)
+
+  pub line-refused : {n : ℕ} {v : Verdict} {r : Refusal} → verdictIs v ≡ lineRefusal found kept → v ≡ Verdict.Refused r → k < n
+      → readWords f (singles need n) t ≡ wrong r
+  unfolding withWords verdictIs
+  line-refused {n} {v} {r} judged e h = wrong-stays f need t (suc k) n r h (rw (sym judged, e) at with-line)
+
+  pub line-fine : {v : Verdict} → verdictIs v ≡ lineRefusal found kept → v ≡ Verdict.Fine → SoFar f need t (k + 1) (ws ++ f (x .got)) (x .rest)
+  unfolding withWords verdictIs
+  line-fine judged e = record { is = rw add-one (rw (sym judged, e) at with-line) }

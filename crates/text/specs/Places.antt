@@ -2,7 +2,7 @@
 -- Assumes nothing.
 use Prim.Native.Nat.{ℕ, _+_, _-_, _*_, _≤_}
 use mathlib.Core.Path.{_≡_}
-use mathlib.Core.Bool.{true, false, cond}
+use mathlib.Core.Bool.{Bool, true, false, cond}
 use mathlib.Core.List.{List, [], _∷_, _++_}
 use mathlib.Core.Option.{Option, none, some}
 use lib.Dec.{leb}
@@ -14,13 +14,14 @@ use Rattle.text.specs.declared.ReadText.{ReadText}
 use Rattle.text.specs.declared.bytes.ByteStep.{ByteStep}
 use Rattle.text.specs.declared.header.Header.{Header}
 use Rattle.text.specs.declared.header.HeaderLine.{HeaderLine}
-use Rattle.text.specs.declared.header.Verdict.{Verdict}
+use Rattle.text.specs.declared.verdict.Verdict.{Verdict}
 use Rattle.text.specs.declared.line.GateLine.{GateLine}
+use Rattle.text.specs.declared.line.LiteralLine.{LiteralLine}
 use Rattle.text.specs.declared.number.NumberStep.{NumberStep}
 use Rattle.text.specs.declared.section.Section.{Section}
 use Rattle.text.specs.Number.{isDigit, digitRun, valueFrom, mostNumber, Front, front, number}
 use Rattle.text.specs.Line.{_>>=_, after, lineOf}
-use Rattle.text.specs.Reading.{Needed, gateWords, Reading, refuses, yields}
+use Rattle.text.specs.Reading.{Needed, Reading, refuses, yields}
 
 -- ---- steps: what is found at a place, and the text from the next place on
 
@@ -29,6 +30,9 @@ numberStep t s = cond (s .found) (some (front (s .value) (drop (s .next) t))) no
 
 unfoldable pub byteStep : List ℕ → ByteStep → Option (List ℕ)
 byteStep t s = cond (s .found) (some (drop (s .next) t)) none
+
+unfoldable pub literalStep : List ℕ → LiteralLine → Option (Front (List ℕ))
+literalStep t s = cond (s .found) (some (front (s .literal .0 ∷ []) (drop (s .next) t))) none
 
 abbrev pub gateNumbersOf : GateLine → List ℕ
 gateNumbersOf s = s .left .0 ∷ s .one .0 ∷ s .other .0 ∷ []
@@ -67,11 +71,15 @@ numberThen b t = do
   t′ ← after (b ∷ []) (x .rest)
   some (front (x .got) t′)
 
--- ---- the header
+-- ---- verdicts
 
 unfoldable pub verdictIs : Verdict → Option Refusal
 verdictIs (Verdict.Fine) = none
 verdictIs (Verdict.Refused r) = some r
+
+-- why a line is refused: it is misshapen, or it breaks its rule
+unfoldable pub lineRefusal : Bool → Bool → Option Refusal
+lineRefusal found kept = cond found (cond kept none (some BadLiteral)) (some BadLine)
 
 -- the limits of a header that is not refused
 pub record Limited (h : Header) : Type 0 where

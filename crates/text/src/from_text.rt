@@ -8,7 +8,6 @@ ghost use Rattle.text.specs.Calls.{readEffect};
 ghost use Rattle.text.specs.Places.{Limited, Counted, readingOf};
 use crate::ReadText;
 use crate::header::Header;
-use crate::header::Verdict;
 use crate::header::header_line;
 use crate::header::header_verdict;
 use crate::section::Section;
@@ -16,6 +15,7 @@ use crate::section::gate_lines;
 use crate::section::input_lines;
 use crate::section::output_lines;
 use crate::section::rest_is_skipped;
+use crate::verdict::Verdict;
 use graph::Refusal;
 
 // The lines after the first, into words kept aside.

@@ -12,6 +12,7 @@ use crate::bytes::byte_at;
 use crate::line::number_and_end;
 use crate::line::number_and_space;
 use crate::reader::space_from;
+use crate::verdict::Verdict;
 use graph::Refusal;
 
 // The counts M I L O A.
@@ -109,12 +110,7 @@ pub fn header_line(text: &[u8]) -> HeaderLine
     }
 }
 
-// What the counts say of the text: why it is refused, or that it may go on.
-pub enum Verdict {
-    Fine,
-    Refused(Refusal),
-}
-
+// What the counts say of the text.
 pub fn header_verdict(text: &[u8], header: Header) -> Verdict
     ensures { λ r. ⌜ verdictIs r ≡ firstRefusal (headerRefusals (now (text .entry)) header) ⌝ }
 {

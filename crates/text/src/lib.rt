@@ -10,6 +10,7 @@ mod put;
 mod reader;
 mod section;
 mod to_text;
+mod verdict;
 
 pub use from_text::read;
 use graph::Refusal;

@@ -3,7 +3,7 @@ ghost use mathlib.Core.Path.{_≡_};
 ghost use mathlib.Core.Bool.{false};
 ghost use lib.ListN.{drop};
 ghost use Rattle.text.specs.Line.{space, lineFeed, lineOf};
-ghost use Rattle.text.specs.Places.{numberStep, numberThen, gateStep};
+ghost use Rattle.text.specs.Places.{numberStep, numberThen, literalStep, gateStep};
 use crate::number::NumberStep;
 use crate::reader::line_end_from;
 use crate::reader::number_from;
@@ -39,6 +39,24 @@ pub fn number_and_end(text: &[u8], at: usize) -> NumberStep
         found: after.found,
         value: number.value,
         next: after.next,
+    }
+}
+
+// A line of one literal.
+pub struct LiteralLine {
+    pub found: bool,
+    pub literal: Lit,
+    pub next: usize,
+}
+
+pub fn literal_line(text: &[u8], at: usize) -> LiteralLine
+    ensures { λ r. ⌜ literalStep (now (text .entry)) r ≡ lineOf 1 (drop at (now (text .entry))) ⌝ }
+{
+    let number = number_and_end(text, at);
+    LiteralLine {
+        found: number.found,
+        literal: Lit(number.value),
+        next: number.next,
     }
 }
 

@@ -1,4 +1,4 @@
-// The lines after the first, a section at a time. A misshapen line is a bad line, one that breaks its rule a bad literal; the first wrong line ends it.
+// The lines after the first, a section at a time. The first wrong line ends it.
 ghost use mathlib.Core.Path.{_≡_};
 ghost use mathlib.Core.List.{List, [], _∷_};
 ghost use Prim.Native.Nat.{_+_, _*_, _<_, _≤_};
@@ -10,7 +10,9 @@ ghost use Rattle.graph.specs.Graph.{largerFirst};
 use crate::header::Header;
 use crate::line::GateLine;
 use crate::line::gate_line;
-use crate::line::number_and_end;
+use crate::line::literal_line;
+use crate::verdict::Verdict;
+use crate::verdict::line_verdict;
 use graph::Lit;
 use graph::Refusal;
 use graph::Var;
@@ -31,12 +33,10 @@ pub fn input_lines(text: &[u8], at: usize, header: Header) -> Section
     let mut next = at;
     let mut k: u32 = 0;
     while k < count {
-        let line = number_and_end(text, next);
-        if !line.found {
-            return Section::Wrong(Refusal::BadLine);
-        }
-        if line.value != plain(Var(k + 1)).0 {
-            return Section::Wrong(Refusal::BadLiteral);
+        let line = literal_line(text, next);
+        let kept = line.literal.0 == plain(Var(k + 1)).0;
+        if let Verdict::Refused(refusal) = line_verdict(line.found, kept) {
+            return Section::Wrong(refusal);
         }
         next = line.next;
         k += 1;
@@ -55,14 +55,12 @@ pub fn output_lines(text: &[u8], at: usize, header: Header, words: &mut [u32]) -
     let mut next = at;
     let mut k: usize = 0;
     while k < count {
-        let line = number_and_end(text, next);
-        if !line.found {
-            return Section::Wrong(Refusal::BadLine);
+        let line = literal_line(text, next);
+        let kept = line.literal.0 <= most;
+        if let Verdict::Refused(refusal) = line_verdict(line.found, kept) {
+            return Section::Wrong(refusal);
         }
-        if most < line.value {
-            return Section::Wrong(Refusal::BadLiteral);
-        }
-        words[k] = line.value;
+        words[k] = line.literal.0;
         next = line.next;
         k += 1;
     }
@@ -111,11 +109,9 @@ pub fn gate_lines(text: &[u8], at: usize, header: Header, words: &mut [u32]) -> 
     let mut k: u32 = 0;
     while k < count {
         let line = gate_line(text, next);
-        if !line.found {
-            return Section::Wrong(Refusal::BadLine);
-        }
-        if !is_gate_of(line, Var(inputs + k + 1)) {
-            return Section::Wrong(Refusal::BadLiteral);
+        let kept = is_gate_of(line, Var(inputs + k + 1));
+        if let Verdict::Refused(refusal) = line_verdict(line.found, kept) {
+            return Section::Wrong(refusal);
         }
         store_gate(words, 2 * (k as usize), line.one, line.other);
         next = line.next;
