@@ -1,10 +1,12 @@
 //! Has the kit prove the crate `exports` and write its archive, and links it.
 
+use std::env;
 use std::path::Path;
 use std::process::Command;
 
 fn main() {
-    let root = Path::new(env!("CARGO_MANIFEST_DIR")).join("../..");
+    let here = env::var("CARGO_MANIFEST_DIR").expect("cargo names the package's folder");
+    let root = Path::new(&here).join("../..");
     let made = Command::new("rt")
         .args(["staticlib", "exports"])
         .current_dir(&root)

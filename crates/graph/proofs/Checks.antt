@@ -8,11 +8,11 @@ use Prim.Native.Nat.{ℕ, zero, suc, _+_, _-_, _*_, _/_, _%_, _<_, _≤_}
 use native.Mathlib.Nat.{le-of-suc-le-suc, not-suc-le-zero}
 use native.Mathlib.Numerals.{add-one}
 use native.Mathlib.Omega.{arith}
-use borrow.Author.Tests.{eq-eqb, le-leb, lt-leb}
+use borrow.Author.Tests.{eq-eqb, ne-eqb, le-leb, lt-leb}
 use lib.Dec.{leb, ltb}
 use lib.ListN.{length, getD}
 use Rattle.graph.specs.Lists.{every, allBelow, all}
-use Rattle.graph.specs.Graph.{Graph, netOf, graphOf, first, second, gateOk, sinkOk, rules, wellFormed, mostInputs, mostOutputs, mostGates}
+use Rattle.graph.specs.Graph.{netOf, graphOf, first, second, gateOk, sinkOk, rules, wellFormed, mostInputs, mostOutputs, mostGates}
 use Rattle.graph.proofs.Lists.{at-most-or-above}
 
 and-false : (b : Bool) → b && false ≡ false
@@ -70,12 +70,6 @@ every-fails [] k e = e
 every-fails (b ∷ bs) zero e = ap (λ x. x && every bs) e
 every-fails (b ∷ bs) (suc k) e = ap (λ x. b && x) (every-fails bs k e) ∙ and-false b
 
-module _ (g : Graph) where
-  -- one rule that is broken decides
-  pub well-fails : (k : ℕ) → getD (rules g) k true ≡ false → wellFormed g ≡ false
-  unfolding wellFormed
-  well-fails k e = every-fails (rules g) k e
-
 module _ (i : ℕ) (gs os : List ℕ) where
   abbrev pub gatesPass : Bool
   gatesPass = allBelow (λ k. gateOk (netOf i gs) (suc (i + k))) (length gs / 2)
@@ -93,9 +87,27 @@ module _ (i : ℕ) (gs os : List ℕ) where
       and-true true = refl
       and-true false = refl
 
-  outputs-fail : outputsPass ≡ false → getD (rules (graphOf i gs os)) 2 true ≡ false
-  unfolding rules sinkOk
-  outputs-fail e = e
+  -- one rule that is broken decides
+  fails : (k : ℕ) → getD (rules (graphOf i gs os)) k true ≡ false → wellFormed (graphOf i gs os) ≡ false
+  unfolding wellFormed
+  fails k e = every-fails (rules (graphOf i gs os)) k e
 
-  pub well-fails-outputs : outputsPass ≡ false → wellFormed (graphOf i gs os) ≡ false
-  well-fails-outputs e = well-fails (graphOf i gs os) 2 (outputs-fail e)
+  pub odd-length : ¬ (length gs % 2 ≡ 0) → wellFormed (graphOf i gs os) ≡ false
+  unfolding rules
+  odd-length h = fails 0 (ne-eqb _ _ h)
+
+  pub wrong-output : outputsPass ≡ false → wellFormed (graphOf i gs os) ≡ false
+  unfolding rules sinkOk
+  wrong-output e = fails 2 e
+
+  pub many-inputs : mostInputs < i → wellFormed (graphOf i gs os) ≡ false
+  unfolding rules
+  many-inputs h = fails 3 (lt-leb i mostInputs h)
+
+  pub many-outputs : mostOutputs < length os → wellFormed (graphOf i gs os) ≡ false
+  unfolding rules
+  many-outputs h = fails 4 (lt-leb (length os) mostOutputs h)
+
+  pub many-gates : mostGates < length gs / 2 → wellFormed (graphOf i gs os) ≡ false
+  unfolding rules
+  many-gates h = fails 5 (lt-leb (length gs / 2) mostGates h)

@@ -59,9 +59,11 @@ fn put_gates(bytes: &mut [u8], at: usize, inputs: u32, gates: &[u32]) -> usize
     let mut next = at;
     let mut k: u32 = 0;
     while k < count {
-        let first = 2 * (k as usize);
+        let place = 2 * (k as usize);
+        let first = Lit(gates[place]);
+        let second = Lit(gates[place + 1]);
         let own = plain(Var(inputs + k + 1));
-        next = put_gate(bytes, next, own, Lit(gates[first]), Lit(gates[first + 1]));
+        next = put_gate(bytes, next, own, first, second);
         k += 1;
     }
     next

@@ -2,28 +2,23 @@
 -- Assumes nothing.
 use mathlib.Core.Path.{sym, _∙_}
 use native.Mathlib.Omega.{arith}
-use borrow.Author.Tests.{ne-eqb, lt-leb, not-true, not-false}
-use Rattle.graph.specs.Graph.{rules}
-use Rattle.graph.proofs.Checks.{well-fails, well-fails-outputs, well-by-gates}
+use borrow.Author.Tests.{not-true, not-false}
+use Rattle.graph.proofs.Checks.{well-by-gates, odd-length, wrong-output, many-inputs, many-outputs, many-gates}
 use borrow.Author.Needs.{needs}
 use Rattle.graph.proofs.inner.well_formed.Statement.{statement}
 use Rattle.graph.proofs.inner.well_formed.Tie as tie
 
 returns : tie.Need-returns
-unfolding rules
-returns c = sym (well-fails _ 0 (ne-eqb _ _ (c .if1 .taken)))
+returns c = sym (odd-length _ _ _ (c .if1 .taken))
 
 returns-2 : tie.Need-returns-2
-unfolding rules
-returns-2 c = sym (well-fails _ 3 (lt-leb _ _ (c .if2 .taken)))
+returns-2 c = sym (many-inputs _ _ _ (omega arith))
 
 returns-3 : tie.Need-returns-3
-unfolding rules
-returns-3 c = sym (well-fails _ 4 (lt-leb _ _ (c .if3 .taken)))
+returns-3 c = sym (many-outputs _ _ _ (omega arith))
 
 returns-4 : tie.Need-returns-4
-unfolding rules
-returns-4 c = sym (well-fails _ 5 (lt-leb _ _ (c .if4 .taken)))
+returns-4 c = sym (many-gates _ _ _ (omega arith))
 
 add-outputs-ok : tie.Need-add-outputs-ok
 add-outputs-ok c = search needs
@@ -38,7 +33,7 @@ outputs-ok-requires : tie.Need-outputs-ok-requires
 outputs-ok-requires c κs = search needs
 
 returns-5 : tie.Need-returns-5
-returns-5 c = sym (well-fails-outputs _ _ _ (sym (c .before .outputs-ok .ensures) ∙ not-true _ (c .if5 .taken)))
+returns-5 c = sym (wrong-output _ _ _ (sym (c .before .outputs-ok .ensures) ∙ not-true _ (c .if5 .taken)))
 
 gates-ok-requires : tie.Need-gates-ok-requires
 gates-ok-requires c κs = search needs

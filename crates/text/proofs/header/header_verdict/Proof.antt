@@ -39,19 +39,19 @@ module _ (t : List ℕ) (h : Header) where
 
 returns : tie.Need-returns
 unfolding verdictIs
-returns c = sym (large _ _ (inl (inl (inl (c .if1 .taken)))))
+returns c = sym (large _ _ (inl (inl (inl (omega arith)))))
 
 returns-2 : tie.Need-returns-2
 unfolding verdictIs
-returns-2 c = sym (large _ _ (inl (inl (inr (c .if2 .taken)))))
+returns-2 c = sym (large _ _ (inl (inl (inr (omega arith)))))
 
 returns-3 : tie.Need-returns-3
 unfolding verdictIs
-returns-3 c = sym (large _ _ (inl (inr (c .if3 .taken))))
+returns-3 c = sym (large _ _ (inl (inr (omega arith))))
 
 returns-4 : tie.Need-returns-4
 unfolding verdictIs
-returns-4 c = sym (large _ _ (inr (c .if4 .taken)))
+returns-4 c = sym (large _ _ (inr (omega arith)))
 
 returns-5 : tie.Need-returns-5
 unfolding verdictIs

@@ -24,40 +24,40 @@ loop-holds c =
     let gs = a .gates .now in
     pieces-none (gateLineOf (a .inputs) gs) (length gs / 2) (a .at) (a .bytes .now) (rw (gate-lines (a .inputs) gs) at (c .before .before .pre .1))
 
-cast-first : tie.Need-cast-first Inv-loop μ-loop
-cast-first c = omega arith
+cast-place : tie.Need-cast-place Inv-loop μ-loop
+cast-place c = omega arith
 
-mul-first : tie.Need-mul-first Inv-loop μ-loop
-mul-first c = omega arith
+mul-place : tie.Need-mul-place Inv-loop μ-loop
+mul-place c = omega arith
 
-add-t14 : tie.Need-add-t14 Inv-loop μ-loop
-add-t14 c = omega arith
+mul-t15 : tie.Need-mul-t15 Inv-loop μ-loop
+mul-t15 c = omega arith
+
+shared-slice-read-t17 : tie.Need-shared-slice-read-t17 Inv-loop μ-loop
+shared-slice-read-t17 c = omega arith
 
 add-t15 : tie.Need-add-t15 Inv-loop μ-loop
 add-t15 c = omega arith
 
+mul-t18 : tie.Need-mul-t18 Inv-loop μ-loop
+mul-t18 c = omega arith
+
+shared-slice-read-t17-2 : tie.Need-shared-slice-read-t17-2 Inv-loop μ-loop
+shared-slice-read-t17-2 c = omega arith
+
+add-t17 : tie.Need-add-t17 Inv-loop μ-loop
+add-t17 c = omega arith
+
+add-t20 : tie.Need-add-t20 Inv-loop μ-loop
+add-t20 c = omega arith
+
 plain-requires : tie.Need-plain-requires Inv-loop μ-loop
 plain-requires c κs = omega arith
 
-mul-t13 : tie.Need-mul-t13 Inv-loop μ-loop
-mul-t13 c = omega arith
-
-shared-slice-read-t14 : tie.Need-shared-slice-read-t14 Inv-loop μ-loop
-shared-slice-read-t14 c = omega arith
-
-add-t21 : tie.Need-add-t21 Inv-loop μ-loop
-add-t21 c = omega arith
-
-mul-t22 : tie.Need-mul-t22 Inv-loop μ-loop
-mul-t22 c = omega arith
-
-shared-slice-read-t15 : tie.Need-shared-slice-read-t15 Inv-loop μ-loop
-shared-slice-read-t15 c = omega arith
-
 put-gate-requires : tie.Need-put-gate-requires Inv-loop μ-loop
 put-gate-requires c κs =
-    let plain = c .before .before .before in
-    let turn = plain .before in
+    let plain = c .before in
+    let turn = plain .before .before .before in
     let l = turn .before .loop in
     let a = turn .before .before .before .before .args in
     let e : plain .plain .result .0 ≡ 2 * suc (a .inputs + l .k) = omega arith in
@@ -72,8 +72,8 @@ loop-less c = omega arith
 loop-again : tie.Need-loop-again Inv-loop μ-loop
 loop-again c =
     let put = c .before .before in
-    let plain = put .before .before .before .before in
-    let turn = plain .before in
+    let plain = put .before .before in
+    let turn = plain .before .before .before in
     let l = turn .before .loop in
     let a = turn .before .before .before .before .args in
     let e : plain .plain .result .0 ≡ 2 * suc (a .inputs + l .k) = omega arith in
@@ -95,16 +95,16 @@ put-gates-spec =
     μ-loop
     cast-count
     loop-holds
-    cast-first
-    mul-first
-    add-t14
+    cast-place
+    mul-place
+    mul-t15
+    shared-slice-read-t17
     add-t15
+    mul-t18
+    shared-slice-read-t17-2
+    add-t17
+    add-t20
     plain-requires
-    mul-t13
-    shared-slice-read-t14
-    add-t21
-    mul-t22
-    shared-slice-read-t15
     put-gate-requires
     add-k
     loop-less
