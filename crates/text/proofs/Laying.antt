@@ -5,8 +5,8 @@ use mathlib.Core.List.{List, [], _∷_, _++_}
 use Prim.Native.Nat.{ℕ, suc, _+_, _≤_, _<_, zero-le}
 use native.Mathlib.Numerals.{add-one}
 use native.Mathlib.Omega.{arith}
-use lib.ListN.{length, set, length-append}
-use lib.Seq.{sets, sets-eq, length-sets}
+use lib.ListN.{length, set, length-append, length-set}
+use lib.Seq.{set-comm, sets, sets-eq, length-sets}
 use Rattle.graph.specs.Lists.{gather}
 use Rattle.graph.specs.Lent.{written}
 use Rattle.graph.proofs.Gather.{gather-more}
@@ -21,6 +21,19 @@ laid-sets at xs l room = sym (sets-eq xs l at room)
 sets-append : (xs ys l : List ℕ) (at : ℕ) → sets (sets l at xs) (at + length xs) ys ≡ sets l at (xs ++ ys)
 sets-append [] ys l at = let e : at + 0 ≡ at = omega arith in rw e
 sets-append (x ∷ xs) ys l at = let e : at + suc (length xs) ≡ suc at + length xs = omega arith in rw e (sets-append xs ys (set l at x) (suc at))
+
+-- the last element is stored first
+sets-last : (xs l : List ℕ) (at x : ℕ) → sets (set l (at + length xs) x) at xs ≡ sets l at (xs ++ (x ∷ []))
+sets-last [] l at x = let e : at + 0 ≡ at = omega arith in rw e
+sets-last (y ∷ xs) l at x =
+    let e : at + suc (length xs) ≡ suc at + length xs = omega arith in
+    rw (set-comm l (at + suc (length xs)) at x y (λ q. omega arith), e) (sets-last xs (set l at y) (suc at) x)
+
+pub laid-last : (at : ℕ) (xs : List ℕ) (x : ℕ) (l : List ℕ) → at + length xs < length l → laid at xs (set l (at + length xs) x) ≡ laid at (xs ++ (x ∷ [])) l
+laid-last at xs x l room =
+    laid-sets at xs (set l (at + length xs) x) (simp length-set (omega arith))
+    ∙ sets-last xs l at x
+    ∙ sym (laid-sets at (xs ++ (x ∷ [])) l (omega (arith, length-append xs (x ∷ []))))
 
 pub laid-front : (xs l : List ℕ) → laid 0 xs l ≡ written xs l
 unfolding laid written

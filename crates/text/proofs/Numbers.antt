@@ -6,7 +6,7 @@ use mathlib.Core.List.{List, [], _∷_, _++_, append-assoc, append-nil}
 use mathlib.Core.Logic.{⊎-elim}
 use mathlib.Core.Option.{none, some, Option·none-ne-some, Option·some-injective}
 use Prim.Native.Nat.{ℕ, zero, suc, _+_, _-_, _*_, _/_, _%_, _^_, _≤_, _<_, zero-le}
-use native.Mathlib.Nat.{not-suc-le-zero, le-refl}
+use native.Mathlib.Nat.{not-suc-le-zero, le-refl, one-le-pow}
 use native.Mathlib.Omega.{arith}
 use borrow.Author.Tests.{leb-true, eqb-false, le-leb, lt-ltb, le-ltb, ne-eqb, not-true}
 use lib.Dec.{leb, eqb}
@@ -45,6 +45,16 @@ decimal-one n h = digits-one n n h
 pub decimal-more : (n : ℕ) → 10 ≤ n → decimal n ≡ decimal (n / 10) ++ (digit (n % 10) ∷ [])
 unfolding decimal
 decimal-more n h = digits-more n n h ∙ ap (λ (bs : List ℕ). bs ++ (digit (n % 10) ∷ [])) (digits-same n (suc (n / 10)) (n / 10) (omega arith) (le-refl (suc (n / 10))))
+
+pub decimal-longer : (n : ℕ) → 10 ≤ n → length (decimal n) ≡ suc (length (decimal (n / 10)))
+decimal-longer n h = omega (arith, simp length-append at (ap length (decimal-more n h)))
+
+-- from 10 ^ k on and below ten times that a number has k + 1 digits
+pub decimal-size : (k n : ℕ) → 10 ^ k ≤ n → n < 10 ^ suc k → suc k ≡ length (decimal n)
+decimal-size zero n least most = sym (ap length (decimal-one n most))
+decimal-size (suc k) n least most =
+    let more : 10 ≤ n = omega (arith, one-le-pow k 10 (omega arith)) in
+    ap suc (decimal-size k (n / 10) (omega arith) (omega arith)) ∙ sym (decimal-longer n more)
 
 -- a number below 10 ^ k has at most k digits
 digits-short : (j k n : ℕ) → n < 10 ^ suc k → length (digits j n) ≤ suc k
