@@ -4,7 +4,7 @@ use Prim.Native.Nat.{ℕ}
 use Prim.Native.String.{String}
 use mathlib.Core.List.{List, [], _∷_, _++_}
 use lib.ListN.{replicate}
-use Rattle.graph.specs.Graph.{Graph, graphOf}
+use Rattle.graph.specs.Graph.{graphOf}
 use Rattle.window.specs.Leaves.{leavesOf}
 use Rattle.replace.specs.Proposal.{literal}
 use Rattle.promises.specs.Calls.{Row, _gives_, buffers, readCall, writeCall, evaluateCall, pickCall, tableCall, applyCall}

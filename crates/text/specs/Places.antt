@@ -14,11 +14,11 @@ use Rattle.text.specs.declared.ReadText.{ReadText}
 use Rattle.text.specs.declared.bytes.ByteStep.{ByteStep}
 use Rattle.text.specs.declared.header.Header.{Header}
 use Rattle.text.specs.declared.header.HeaderLine.{HeaderLine}
-use Rattle.text.specs.declared.verdict.Verdict.{Verdict}
 use Rattle.text.specs.declared.line.GateLine.{GateLine}
 use Rattle.text.specs.declared.line.LiteralLine.{LiteralLine}
 use Rattle.text.specs.declared.number.NumberStep.{NumberStep}
 use Rattle.text.specs.declared.section.Section.{Section}
+use Rattle.text.specs.declared.verdict.Verdict.{Verdict}
 use Rattle.text.specs.Number.{isDigit, digitRun, valueFrom, mostNumber, Front, front, number}
 use Rattle.text.specs.Line.{_>>=_, after, lineOf}
 use Rattle.text.specs.Reading.{Needed, Reading, refuses, yields}

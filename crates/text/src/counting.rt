@@ -38,12 +38,14 @@ fn variables_length(highest: u32) -> usize
     total
 }
 
+// The bytes of a graph's whole text.
 pub fn text_length(inputs: u32, gates: &[u32], outputs: &[u32]) -> usize
     requires { ⌜ wellFormed (graphOf inputs (now gates) (now outputs)) ≡ true ⌝ }
     ensures { λ r. ⌜ r ≡ length (textOf (graphOf inputs (now (gates .entry)) (now (outputs .entry)))) ⌝ }
 {
     let gate_count = (gates.len() / 2) as u32;
     let output_count = outputs.len() as u32;
+    // `aag` and a space, the counts, one digit for no latches, and a byte after each of the five.
     let first_line = 4
         + decimal_length(inputs + gate_count)
         + decimal_length(inputs)

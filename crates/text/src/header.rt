@@ -1,7 +1,6 @@
 // The first line: `aag M I L O A`, and what it alone decides.
 ghost use mathlib.Core.Path.{_≡_};
 ghost use mathlib.Core.Bool.{false};
-ghost use lib.ListN.{drop};
 ghost use Rattle.graph.specs.Refuse.{firstRefusal};
 ghost use Rattle.text.specs.Line.{after};
 ghost use Rattle.text.specs.States.{aag};

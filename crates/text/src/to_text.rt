@@ -1,6 +1,6 @@
 // Writing a graph's text into a lent list of bytes. The bytes are counted first: where they do not fit, none is written.
 ghost use mathlib.Core.Path.{_≡_};
-ghost use mathlib.Core.List.{[], _∷_, _++_};
+ghost use mathlib.Core.List.{[]};
 ghost use mathlib.Core.Bool.{false, true};
 ghost use Prim.Native.Nat.{_+_, _≤_};
 ghost use lib.ListN.{length};
