@@ -1,21 +1,23 @@
--- What meets a call's contract: one result alone. And the two calls on texts together: a graph that is written and read again is that graph.
+-- What meets a call's contract: one result alone. Of the calls on texts: just what a text states is read, and a graph that is written and
+-- read again is that graph.
 -- Assumes nothing.
-use mathlib.Core.Path.{_≡_, refl, sym, ap, _∙_}
+use mathlib.Core.Path.{_≡_, refl, sym, ap, _∙_, subst⁻¹}
 use mathlib.Core.Bool.{false}
 use mathlib.Core.List.{List}
 use Prim.Native.Nat.{ℕ, _≤_}
 use borrow.Author.Tests.{le-ltb}
 use lib.ListN.{length, take}
-use Rattle.graph.specs.Graph.{Graph, size, WellFormed}
+use Rattle.graph.specs.Graph.{Graph, size}
 use Rattle.graph.specs.Lent.{short, Buffers, noRoomFor, storedIn, Effect, _leaving_}
 use Rattle.text.specs.declared.ReadText.{ReadText}
 use Rattle.text.specs.declared.WrittenText.{WrittenText}
 use Rattle.text.specs.States.{textOf}
-use Rattle.text.specs.Reading.{yields, reading}
-use Rattle.text.specs.Calls.{withRoom, readEffect, writeEffect, writtenOutcome}
+use Rattle.text.specs.Reading.{yields, reading, Stated}
+use Rattle.text.specs.Calls.{withRoom, readEffect, readOutcome, writeEffect, writtenOutcome}
+use Rattle.text.proofs.Reading.{reading-iff}
 use Rattle.promises.specs.Promises.{Holds}
 use Rattle.promises.proofs.Stored.{holds-stored}
-use Rattle.promises.proofs.Accepted.{write-leaves-text, write-then-read}
+use Rattle.promises.proofs.Accepted.{read-leaves-stated, write-leaves-text, write-then-read}
 
 -- ---- one result
 
@@ -29,20 +31,42 @@ pub write-has-one-result : (g : Graph) (lent : List ℕ) (r s : WrittenText) (x 
     → (r ≡ s) × (x ≡ y)
 write-has-one-result g lent = one-effect
 
+-- ---- what reading accepts
+
+-- r and after are what reading t with b lent came to
+module _ (t : List ℕ) (b after : Buffers) (r : ReadText) (met : r leaving after ≡ readEffect t b) where
+  -- a text that states a graph within the limits is read as that graph, where there is room for it
+  module _ (g : Graph) (stated : Stated t g) (gates-fit : length (g .net .gates) ≤ length (b .gates)) (outputs-fit : length (g .outputs) ≤ length (b .outputs)) where
+    room : noRoomFor g b ≡ false
+    unfolding noRoomFor short
+    room = rw (le-ltb _ _ gates-fit, le-ltb _ _ outputs-fit)
+
+    effect-is : readEffect t b ≡ ReadText.Graph (g .net .inputs) (size (g .net)) (length (g .outputs)) leaving storedIn (g .net .gates) (g .outputs) b
+    unfolding readEffect withRoom
+    effect-is = rw (reading-iff t g .1 stated, readEffect, withRoom, room)
+
+    pub stated-is-read : (r ≡ ReadText.Graph (g .net .inputs) (size (g .net)) (length (g .outputs))) × Holds g b after
+    stated-is-read =
+        let (answer, lent-after) = one-effect _ _ _ _ (met ∙ effect-is) refl in
+        (answer, rw lent-after (holds-stored g b (stated .well-formed)))
+
+  -- and nothing else is read
+  module _ (i a o : ℕ) (accepted : r ≡ ReadText.Graph i a o) where
+    answer-is : (readEffect t b) .answer ≡ ReadText.Graph i a o
+    answer-is = ap (λ (e : Effect ReadText Buffers). e .answer) (sym met) ∙ accepted
+
+    number-is : (readOutcome ((readEffect t b) .answer)) .number ≡ 0
+    unfolding readOutcome
+    number-is = rw answer-is
+
+    pub read-was-stated : (g : Graph) × Stated t g × (ReadText.Graph i a o ≡ ReadText.Graph (g .net .inputs) (size (g .net)) (length (g .outputs))) × Holds g b after
+    read-was-stated =
+        let (g, stated, answer, holds) = read-leaves-stated t b number-is in
+        (g, stated, sym answer-is ∙ answer, subst⁻¹ (Holds g b) (ap (λ (e : Effect ReadText Buffers). e .lent) met) holds)
+
 -- ---- written and read again
 
--- a text that yields a graph, with room for it
-module _ (t : List ℕ) (g : Graph) (b : Buffers) (gates-fit : length (g .net .gates) ≤ length (b .gates)) (outputs-fit : length (g .outputs) ≤ length (b .outputs)) where
-  room : noRoomFor g b ≡ false
-  unfolding noRoomFor short
-  room = rw (le-ltb _ _ gates-fit, le-ltb _ _ outputs-fit)
-
-  read-effect-is : reading t ≡ yields g
-      → readEffect t b ≡ ReadText.Graph (g .net .inputs) (size (g .net)) (length (g .outputs)) leaving storedIn (g .net .gates) (g .outputs) b
-  unfolding readEffect withRoom
-  read-effect-is e = rw (e, readEffect, withRoom, room)
-
-module _ (g : Graph) (well : WellFormed g) (lent bytes : List ℕ) (n : ℕ) (written-now : WrittenText.Bytes n leaving bytes ≡ writeEffect g lent) where
+module _ (g : Graph) (lent bytes : List ℕ) (n : ℕ) (written-now : WrittenText.Bytes n leaving bytes ≡ writeEffect g lent) where
   accepted : (writtenOutcome ((writeEffect g lent) .answer)) .number ≡ 0
   unfolding writtenOutcome
   accepted = ap (λ (e : Effect WrittenText (List ℕ)). (writtenOutcome (e .answer)) .number) (sym written-now)
@@ -58,9 +82,7 @@ module _ (g : Graph) (well : WellFormed g) (lent bytes : List ℕ) (n : ℕ) (wr
   read-back : reading (take n bytes) ≡ yields g
   read-back = rw (n-is, ap (λ (e : Effect WrittenText (List ℕ)). e .lent) written-now) (write-then-read g lent accepted)
 
-  pub written-and-read-again : (b after : Buffers) (r : ReadText) → length (g .net .gates) ≤ length (b .gates) → length (g .outputs) ≤ length (b .outputs)
-      → r leaving after ≡ readEffect (take n bytes) b
+  pub written-and-read-again : (b after : Buffers) (r : ReadText) → r leaving after ≡ readEffect (take n bytes) b
+      → length (g .net .gates) ≤ length (b .gates) → length (g .outputs) ≤ length (b .outputs)
       → (r ≡ ReadText.Graph (g .net .inputs) (size (g .net)) (length (g .outputs))) × Holds g b after
-  written-and-read-again b after r gates-fit outputs-fit read-now =
-      let (answer, lent-after) = one-effect _ _ _ _ (read-now ∙ read-effect-is (take n bytes) g b gates-fit outputs-fit read-back) refl in
-      (answer, rw lent-after (holds-stored g b well))
+  written-and-read-again b after r met = stated-is-read (take n bytes) b after r met g (reading-iff (take n bytes) g .0 read-back)
