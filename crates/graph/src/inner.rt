@@ -4,7 +4,7 @@ ghost use Prim.Native.Nat.{suc, _+_, _*_, _/_, _<_, _≤_, _^_};
 ghost use lib.Dec.{leb};
 ghost use lib.ListN.{length};
 ghost use Rattle.graph.specs.Lists.{allBelow, all};
-ghost use Rattle.graph.specs.Graph.{netOf, graphOf, gateOk, wellFormed};
+ghost use Rattle.graph.specs.Graph.{netOf, graphOf, mostInputs, mostGates, gateOk, wellFormed};
 use crate::lit::Lit;
 use crate::lit::Var;
 
@@ -30,7 +30,7 @@ fn wide(word: u32) -> usize
 
 // Gate k, from 0, has its larger literal first, and both are below its own.
 fn gate_ok(inputs: usize, gates: &[u32], k: usize) -> bool
-    requires { ⌜ (inputs ≤ 64) × (k < 1024) × (2 * k + 1 < length (now gates)) ⌝ }
+    requires { ⌜ (inputs ≤ mostInputs) × (k < mostGates) × (2 * k + 1 < length (now gates)) ⌝ }
     ensures { λ r. ⌜ r ≡ gateOk (netOf inputs (now (gates .entry))) (suc (inputs + k)) ⌝ }
 {
     let first = gates[2 * k];
@@ -42,7 +42,7 @@ fn gate_ok(inputs: usize, gates: &[u32], k: usize) -> bool
 }
 
 fn gates_ok(inputs: usize, gates: &[u32]) -> bool
-    requires { ⌜ (inputs ≤ 64) × (length (now gates) ≤ 2049) ⌝ }
+    requires { ⌜ (inputs ≤ mostInputs) × (length (now gates) ≤ 2 * mostGates) ⌝ }
     ensures { λ r. ⌜ r ≡ allBelow (λ k. gateOk (netOf inputs (now (gates .entry))) (suc (inputs + k))) (length (now (gates .entry)) / 2) ⌝ }
 {
     let count = gates.len() / 2;

@@ -73,17 +73,17 @@ run-value-is t {bs = b ∷ bs} e = rw (e, lt-ltb 0 (length (b ∷ bs)) (omega ar
 -- ---- digits that were read
 
 -- the digits from the place `at` to the place `next` were read, and have this value: the run at `next` is what is left of the run at `at`
-pub record Passed (t : List ℕ) (at next value : ℕ) : Type 0 where
+pub record RunTo (t : List ℕ) (at next value : ℕ) : Type 0 where
   count : at + length (run (drop at t)) ≡ next + length (run (drop next t))
   same : valueFrom 0 (run (drop at t)) ≡ valueFrom value (run (drop next t))
   follows : rest (drop at t) ≡ rest (drop next t)
 
 module _ (t : List ℕ) (at : ℕ) where
-  pub passed-none : Passed t at at 0
+  pub passed-none : RunTo t at at 0
   passed-none = record { count = refl; same = refl; follows = refl }
 
-  module _ (next value : ℕ) (p : Passed t at next value) where
-    pub passed-more : (d : ℕ) → d ≡ digitAt (drop next t) → d < 10 → Passed t at (next + 1) (10 * value + d)
+  module _ (next value : ℕ) (p : RunTo t at next value) where
+    pub passed-more : (d : ℕ) → d ≡ digitAt (drop next t) → d < 10 → RunTo t at (next + 1) (10 * value + d)
     unfolding valueFrom
     passed-more d q h =
         let e : digitRun (drop next t) ≡ front (digit d ∷ run (drop (next + 1) t)) (rest (drop (next + 1) t)) = rw (q, ← drop-drop 1 next t) (taken (drop next t) (omega arith) .runs refl) in

@@ -3,7 +3,7 @@
 --     ends             the end of a walk with four locals whose last statement is a call: the call's result is returned
 --     meets            from the walk of a function's MIR to `Meets` of its contract
 --     stands           from there to the function's routine, where the callee's routine meets its contract
--- Assumes `Given`.
+-- Assumes nothing.
 use mathlib.Core.Path.{_≡_, refl}
 use mathlib.Core.List.{List, [], _∷_}
 use Prim.Native.Nat.{ℕ, zero}

@@ -2,9 +2,9 @@
 ghost use mathlib.Core.Path.{_≡_};
 ghost use mathlib.Core.List.{[]};
 ghost use mathlib.Core.Bool.{true};
-ghost use Prim.Native.Nat.{_≤_};
+ghost use Prim.Native.Nat.{_+_, _*_, _≤_};
 ghost use lib.ListN.{length};
-ghost use Rattle.graph.specs.Graph.{netOf, graphOf, wellFormed};
+ghost use Rattle.graph.specs.Graph.{netOf, graphOf, mostInputs, mostGates, wellFormed};
 ghost use Rattle.text.specs.States.{inputLines, outputLines, textOf};
 use crate::decimal::decimal_length;
 use graph::Var;
@@ -12,7 +12,7 @@ use graph::inner::plain;
 
 // The bytes of these literals and of one after each.
 fn literals_length(literals: &[u32]) -> usize
-    requires { ⌜ length (now literals) ≤ 2048 ⌝ }
+    requires { ⌜ length (now literals) ≤ 2 * mostGates ⌝ }
     ensures { λ r. ⌜ r ≡ length (outputLines (now (literals .entry))) ⌝ }
 {
     let mut total: usize = 0;
@@ -26,7 +26,7 @@ fn literals_length(literals: &[u32]) -> usize
 
 // The same of the plain literals of variables 1 to `highest`: the input lines' and the gates' left sides.
 fn variables_length(highest: u32) -> usize
-    requires { ⌜ highest ≤ 1088 ⌝ }
+    requires { ⌜ highest ≤ mostInputs + mostGates ⌝ }
     ensures { λ r. ⌜ r ≡ length (inputLines (netOf highest [])) ⌝ }
 {
     let mut total: usize = 0;

@@ -1,7 +1,8 @@
 // Reading a text into lists lent for its graph. The words are kept aside until the whole text is judged: a refusal writes nothing.
 ghost use mathlib.Core.Path.{_≡_};
-ghost use Prim.Native.Nat.{_≤_};
+ghost use Prim.Native.Nat.{_*_, _≤_};
 ghost use lib.ListN.{length, take, drop};
+ghost use Rattle.graph.specs.Graph.{mostOutputs, mostGates};
 ghost use Rattle.graph.specs.Lent.{written, buffersOf, _leaving_};
 ghost use Rattle.text.specs.Reading.{readBody, reading};
 ghost use Rattle.text.specs.Calls.{readEffect};
@@ -11,15 +12,15 @@ use crate::header::Header;
 use crate::header::header_line;
 use crate::header::header_verdict;
 use crate::section::Section;
-use crate::section::gate_lines;
-use crate::section::input_lines;
-use crate::section::output_lines;
+use crate::section::read_gates;
+use crate::section::read_inputs;
+use crate::section::read_outputs;
 use crate::section::rest_is_skipped;
 use crate::verdict::Verdict;
 use graph::Refusal;
 
 // The lines after the first, into words kept aside.
-fn read_lines(
+fn read_body(
     text: &[u8],
     at: usize,
     header: Header,
@@ -27,15 +28,15 @@ fn read_lines(
     outputs: &mut [u32],
 ) -> ReadText
     requires { ⌜ Limited header ⌝ }
-    requires { ⌜ (length (now gates) ≡ 2048) × (length (now outputs) ≡ 64) ⌝ }
+    requires { ⌜ (length (now gates) ≡ 2 * mostGates) × (length (now outputs) ≡ mostOutputs) ⌝ }
     ensures { λ r. ⌜ readingOf (now (gates .exit)) (now (outputs .exit)) r ≡ readBody header (drop at (now (text .entry))) ⌝ }
     ensures { λ r. ⌜ Counted r ⌝ }
 {
-    match input_lines(text, at, header) {
+    match read_inputs(text, at, header) {
         Section::Wrong(refusal) => ReadText::Refused(refusal),
-        Section::Ends(after_inputs) => match output_lines(text, after_inputs, header, outputs) {
+        Section::Ends(after_inputs) => match read_outputs(text, after_inputs, header, outputs) {
             Section::Wrong(refusal) => ReadText::Refused(refusal),
-            Section::Ends(after_outputs) => match gate_lines(text, after_outputs, header, gates) {
+            Section::Ends(after_outputs) => match read_gates(text, after_outputs, header, gates) {
                 Section::Wrong(refusal) => ReadText::Refused(refusal),
                 Section::Ends(after_gates) => {
                     if !rest_is_skipped(text, after_gates) {
@@ -54,7 +55,7 @@ fn read_lines(
 
 // The whole text, into words kept aside.
 fn read_aside(text: &[u8], gates: &mut [u32], outputs: &mut [u32]) -> ReadText
-    requires { ⌜ (length (now gates) ≡ 2048) × (length (now outputs) ≡ 64) ⌝ }
+    requires { ⌜ (length (now gates) ≡ 2 * mostGates) × (length (now outputs) ≡ mostOutputs) ⌝ }
     ensures { λ r. ⌜ readingOf (now (gates .exit)) (now (outputs .exit)) r ≡ reading (now (text .entry)) ⌝ }
     ensures { λ r. ⌜ Counted r ⌝ }
 {
@@ -65,7 +66,7 @@ fn read_aside(text: &[u8], gates: &mut [u32], outputs: &mut [u32]) -> ReadText
     let header = line.header;
     match header_verdict(text, header) {
         Verdict::Refused(refusal) => ReadText::Refused(refusal),
-        Verdict::Fine => read_lines(text, line.next, header, gates, outputs),
+        Verdict::Fine => read_body(text, line.next, header, gates, outputs),
     }
 }
 

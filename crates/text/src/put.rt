@@ -3,6 +3,7 @@ ghost use mathlib.Core.Path.{_≡_};
 ghost use mathlib.Core.List.{[], _∷_, _++_};
 ghost use Prim.Native.Nat.{_+_, _≤_};
 ghost use lib.ListN.{length};
+ghost use Rattle.graph.specs.Graph.{mostInputs, mostGates};
 ghost use Rattle.text.specs.Number.{decimal};
 ghost use Rattle.text.specs.Line.{line};
 ghost use Rattle.text.specs.States.{aag};
@@ -43,7 +44,7 @@ pub fn put_gate(bytes: &mut [u8], at: usize, left: Lit, one: Lit, other: Lit) ->
 
 // The first line of a graph with these counts.
 pub fn put_header(bytes: &mut [u8], inputs: u32, outputs: u32, gates: u32) -> usize
-    requires { ⌜ (inputs ≤ 64) × (gates ≤ 1024) ⌝ }
+    requires { ⌜ (inputs ≤ mostInputs) × (gates ≤ mostGates) ⌝ }
     requires { ⌜ length (aag ++ line ((inputs + gates) ∷ inputs ∷ 0 ∷ outputs ∷ gates ∷ [])) ≤ length (now bytes) ⌝ }
     ensures { λ r. ⌜ r ≡ length (aag ++ line ((inputs + gates) ∷ inputs ∷ 0 ∷ outputs ∷ gates ∷ [])) ⌝ }
     ensures { λ _. ⌜ now (bytes .exit) ≡ laid 0 (aag ++ line ((inputs + gates) ∷ inputs ∷ 0 ∷ outputs ∷ gates ∷ [])) (now (bytes .entry)) ⌝ }

@@ -6,7 +6,7 @@ ghost use lib.ListN.{length, take, drop};
 ghost use Rattle.text.specs.States.{skipped};
 ghost use Rattle.text.specs.Reading.{gateNeeded, inputsNeeded, outputsNeeded, gatesNeeded, gateWords};
 ghost use Rattle.text.specs.Places.{Limited, laid, noWords, outputWords, gateNumbersOf, readWords, sectionWords};
-ghost use Rattle.graph.specs.Graph.{largerFirst};
+ghost use Rattle.graph.specs.Graph.{mostInputs, mostGates, largerFirst};
 use crate::header::Header;
 use crate::line::GateLine;
 use crate::line::gate_line;
@@ -25,7 +25,7 @@ pub enum Section {
 }
 
 // Input line k is 2k.
-pub fn input_lines(text: &[u8], at: usize, header: Header) -> Section
+pub fn read_inputs(text: &[u8], at: usize, header: Header) -> Section
     requires { ⌜ Limited header ⌝ }
     ensures { λ r. ⌜ sectionWords (now (text .entry)) [] r ≡ readWords noWords (inputsNeeded header) (drop at (now (text .entry))) ⌝ }
 {
@@ -45,7 +45,7 @@ pub fn input_lines(text: &[u8], at: usize, header: Header) -> Section
 }
 
 // An output is any literal up to 2M + 1.
-pub fn output_lines(text: &[u8], at: usize, header: Header, words: &mut [u32]) -> Section
+pub fn read_outputs(text: &[u8], at: usize, header: Header, words: &mut [u32]) -> Section
     requires { ⌜ Limited header ⌝ }
     requires { ⌜ header .outputs ≤ length (now words) ⌝ }
     ensures { λ r. ⌜ sectionWords (now (text .entry)) (take (header .outputs) (now (words .exit))) r ≡ readWords outputWords (outputsNeeded header) (drop at (now (text .entry))) ⌝ }
@@ -69,7 +69,7 @@ pub fn output_lines(text: &[u8], at: usize, header: Header, words: &mut [u32]) -
 
 // That a line is the line of this gate: the gate's own literal on the left, and smaller ones on the right.
 fn is_gate_of(line: GateLine, gate: Var) -> bool
-    requires { ⌜ gate .0 < 4096 ⌝ }
+    requires { ⌜ gate .0 ≤ mostInputs + mostGates ⌝ }
     ensures { λ r. ⌜ r ≡ (gateNeeded (gate .0)) .rule (gateNumbersOf line) ⌝ }
 {
     let own = plain(gate);
@@ -98,7 +98,7 @@ fn store_gate(words: &mut [u32], at: usize, one: Lit, other: Lit)
 }
 
 // Gate line k has left side 2(I + k), and its right sides in either order.
-pub fn gate_lines(text: &[u8], at: usize, header: Header, words: &mut [u32]) -> Section
+pub fn read_gates(text: &[u8], at: usize, header: Header, words: &mut [u32]) -> Section
     requires { ⌜ Limited header ⌝ }
     requires { ⌜ 2 * header .gates ≤ length (now words) ⌝ }
     ensures { λ r. ⌜ sectionWords (now (text .entry)) (take (2 * header .gates) (now (words .exit))) r ≡ readWords gateWords (gatesNeeded header) (drop at (now (text .entry))) ⌝ }

@@ -2,9 +2,9 @@
 ghost use mathlib.Core.Path.{_≡_};
 ghost use mathlib.Core.List.{[]};
 ghost use mathlib.Core.Bool.{false, true};
-ghost use Prim.Native.Nat.{_+_, _≤_};
+ghost use Prim.Native.Nat.{_+_, _*_, _≤_};
 ghost use lib.ListN.{length};
-ghost use Rattle.graph.specs.Graph.{netOf, graphOf, wellFormed};
+ghost use Rattle.graph.specs.Graph.{netOf, graphOf, mostInputs, mostGates, wellFormed};
 ghost use Rattle.graph.specs.Lent.{_leaving_};
 ghost use Rattle.text.specs.States.{inputLines, outputLines, gateLines, textOf};
 ghost use Rattle.text.specs.Calls.{writeEffect};
@@ -21,7 +21,7 @@ use graph::inner::plain;
 use graph::inner::well_formed;
 
 fn put_inputs(bytes: &mut [u8], at: usize, inputs: u32) -> usize
-    requires { ⌜ inputs ≤ 64 ⌝ }
+    requires { ⌜ inputs ≤ mostInputs ⌝ }
     requires { ⌜ at + length (inputLines (netOf inputs [])) ≤ length (now bytes) ⌝ }
     ensures { λ r. ⌜ r ≡ at + length (inputLines (netOf inputs [])) ⌝ }
     ensures { λ _. ⌜ now (bytes .exit) ≡ laid at (inputLines (netOf inputs [])) (now (bytes .entry)) ⌝ }
@@ -50,7 +50,7 @@ fn put_outputs(bytes: &mut [u8], at: usize, outputs: &[u32]) -> usize
 }
 
 fn put_gates(bytes: &mut [u8], at: usize, inputs: u32, gates: &[u32]) -> usize
-    requires { ⌜ (inputs ≤ 64) × (length (now gates) ≤ 2048) ⌝ }
+    requires { ⌜ (inputs ≤ mostInputs) × (length (now gates) ≤ 2 * mostGates) ⌝ }
     requires { ⌜ at + length (gateLines (netOf inputs (now gates)) (λ k. false)) ≤ length (now bytes) ⌝ }
     ensures { λ r. ⌜ r ≡ at + length (gateLines (netOf inputs (now (gates .entry))) (λ k. false)) ⌝ }
     ensures { λ _. ⌜ now (bytes .exit) ≡ laid at (gateLines (netOf inputs (now (gates .entry))) (λ k. false)) (now (bytes .entry)) ⌝ }
@@ -90,11 +90,11 @@ pub fn write(inputs: usize, gates: &[u32], outputs: &[u32], bytes: &mut [u8]) ->
     if !well_formed(inputs, gates, outputs) {
         return WrittenText::Refused(Refusal::BadGraph);
     }
-    let few = inputs as u32;
-    let length = text_length(few, gates, outputs);
+    let input_count = inputs as u32;
+    let length = text_length(input_count, gates, outputs);
     if bytes.len() < length {
         return WrittenText::Refused(Refusal::NoRoom);
     }
-    put_text(few, gates, outputs, bytes);
+    put_text(input_count, gates, outputs, bytes);
     WrittenText::Bytes(length)
 }

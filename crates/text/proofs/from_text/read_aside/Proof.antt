@@ -42,8 +42,8 @@ enum-known-refusal c = search needs
 enum-told : tie.Need-enum-told
 enum-told c = search needs
 
-read-lines-requires : tie.Need-read-lines-requires
-read-lines-requires c κs =
+read-body-requires : tie.Need-read-body-requires
+read-body-requires c κs =
     let n = c .before .before in
     let v = n .before .before in
     (header-limited (judged v) (n .enum-told .given .1), start (found v) .pre)
@@ -62,7 +62,7 @@ returns-3 : tie.Need-returns-3
 returns-3 c =
     let l = c .before .before .before .before in
     let n = l .before .before .before in
-    (rw (header-fine (judged (n .before .before)) (n .enum-told .given .1)) (l .read-lines .ensures .0), l .read-lines .ensures .1)
+    (rw (header-fine (judged (n .before .before)) (n .enum-told .given .1)) (l .read-body .ensures .0), l .read-body .ensures .1)
 
 pub read-aside-spec : {M : Type 1} → statement M
 read-aside-spec =
@@ -73,7 +73,7 @@ read-aside-spec =
     header-verdict-requires
     enum-known-refusal
     enum-told
-    read-lines-requires
+    read-body-requires
     returns-2
     same-length
     same-length-2

@@ -6,12 +6,12 @@ use native.Mathlib.Omega.{arith}
 use lib.ListN.{length, drop}
 use Rattle.text.specs.Number.{mostNumber}
 use Rattle.text.specs.Places.{numberStep, digitAt}
-use Rattle.text.proofs.Runs.{Passed, passed-none, passed-more, passed-limit, passed-all, digit-within}
+use Rattle.text.proofs.Runs.{RunTo, passed-none, passed-more, passed-limit, passed-all, digit-within}
 use Rattle.text.proofs.number.digits_at.Statement.{statement}
 use Rattle.text.proofs.number.digits_at.Tie as tie
 
 abbrev Inv-loop : tie.InvT-loop
-Inv-loop text at value₀ next₀ digit₀ value next digit = Passed text at next value × (digit ≡ digitAt (drop next text)) × (value ≤ mostNumber)
+Inv-loop text at value₀ next₀ digit₀ value next digit = RunTo text at next value × (digit ≡ digitAt (drop next text)) × (value ≤ mostNumber)
 
 abbrev μ-loop : tie.MeasureT-loop
 μ-loop text at value₀ next₀ digit₀ value next digit = length text - next

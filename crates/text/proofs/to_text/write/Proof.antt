@@ -34,8 +34,8 @@ returns c =
     let start = c .before .before .before .before .before in
     writes-bad-graph (graph start) (start .args .bytes .now) (sym (c .before .well-formed .ensures) ∙ not-true (c .before .well-formed .result) (c .if1 .taken))
 
-cast-few : tie.Need-cast-few
-cast-few c = omega (arith, well-formed (graph (c .before .before .before .before .before)) (passed c))
+cast-input-count : tie.Need-cast-input-count
+cast-input-count c = omega (arith, well-formed (graph (c .before .before .before .before .before)) (passed c))
 
 text-length-requires : tie.Need-text-length-requires
 text-length-requires c κs = passed c
@@ -65,7 +65,7 @@ write-spec =
     (tie.spec
     well-formed-requires
     returns
-    cast-few
+    cast-input-count
     text-length-requires
     returns-2
     put-text-requires

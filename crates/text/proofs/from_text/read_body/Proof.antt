@@ -1,4 +1,4 @@
--- `text::from_text::read_lines` meets its contract: each section goes on where the one before it ends, and the first wrong line decides.
+-- `text::from_text::read_body` meets its contract: each section goes on where the one before it ends, and the first wrong line decides.
 -- Assumes nothing.
 use mathlib.Core.Path.{_≡_, sym, ap, _∙_}
 use mathlib.Core.List.{List, []}
@@ -11,27 +11,27 @@ use Rattle.text.specs.declared.header.Header.{Header}
 use Rattle.text.specs.Reading.{inputsNeeded, outputsNeeded, gatesNeeded, gateWords}
 use Rattle.text.specs.Places.{noWords, outputWords, words, readWords, sectionWords, readingOf, counts, none-counted}
 use Rattle.text.proofs.BySection.{inputs-wrong, outputs-wrong, gates-wrong, rest-wrong, all-right}
-use Rattle.text.proofs.from_text.read_lines.Statement.{statement}
-use Rattle.text.proofs.from_text.read_lines.Tie as tie
+use Rattle.text.proofs.from_text.read_body.Statement.{statement}
+use Rattle.text.proofs.from_text.read_body.Tie as tie
 
 -- ---- the places where the sections were read, and what stands there
 
-abbrev inputs-at : tie.After-after-inputs → tie.After-input-lines
+abbrev inputs-at : tie.After-after-inputs → tie.After-read-inputs
 inputs-at a = a .before .before
 
-abbrev outputs-at : tie.After-after-outputs → tie.After-output-lines
+abbrev outputs-at : tie.After-after-outputs → tie.After-read-outputs
 outputs-at b = b .before .before .before .before
 
-abbrev gates-at : tie.After-after-gates → tie.After-gate-lines
+abbrev gates-at : tie.After-after-gates → tie.After-read-gates
 gates-at g = g .before .before .before .before
 
-abbrev before-outputs : tie.After-output-lines → tie.After-after-inputs
+abbrev before-outputs : tie.After-read-outputs → tie.After-after-inputs
 before-outputs o = o .before .before .before
 
-abbrev before-gates : tie.After-gate-lines → tie.After-after-outputs
+abbrev before-gates : tie.After-read-gates → tie.After-after-outputs
 before-gates m = m .before .before .before
 
-module _ (p : tie.After-input-lines) where
+module _ (p : tie.After-read-inputs) where
   abbrev start : tie.Start
   start = p .before .before .before .before
 
@@ -50,30 +50,30 @@ module _ (p : tie.After-input-lines) where
 inputs-end : (a : tie.After-after-inputs)
     → let p = inputs-at a in readWords noWords (inputsNeeded (header p)) (body p) ≡ words [] (from p (a .after-inputs .given .0 .0))
 unfolding sectionWords
-inputs-end a = sym (inputs-at a .input-lines .ensures) ∙ ap (sectionWords _ _) (a .after-inputs .given .1)
+inputs-end a = sym (inputs-at a .read-inputs .ensures) ∙ ap (sectionWords _ _) (a .after-inputs .given .1)
 
 outputs-end : (b : tie.After-after-outputs)
     → let o = outputs-at b in
     let a = before-outputs o in
     let p = inputs-at a in
     readWords outputWords (outputsNeeded (header p)) (from p (a .after-inputs .given .0 .0))
-    ≡ words (take ((header p) .outputs) (o .output-lines .last .1 .1 .1 .0)) (from p (b .after-outputs .given .0 .0))
+    ≡ words (take ((header p) .outputs) (o .read-outputs .last .1 .1 .1 .0)) (from p (b .after-outputs .given .0 .0))
 unfolding sectionWords
-outputs-end b = sym (outputs-at b .output-lines .ensures) ∙ ap (sectionWords _ _) (b .after-outputs .given .1)
+outputs-end b = sym (outputs-at b .read-outputs .ensures) ∙ ap (sectionWords _ _) (b .after-outputs .given .1)
 
 gates-end : (g : tie.After-after-gates)
     → let m = gates-at g in
     let b = before-gates m in
     let p = inputs-at (before-outputs (outputs-at b)) in
     readWords gateWords (gatesNeeded (header p)) (from p (b .after-outputs .given .0 .0))
-    ≡ words (take (2 * (header p) .gates) (m .gate-lines .last .1 .1 .1 .0)) (from p (g .after-gates .given .0 .0))
+    ≡ words (take (2 * (header p) .gates) (m .read-gates .last .1 .1 .1 .0)) (from p (g .after-gates .given .0 .0))
 unfolding sectionWords
-gates-end g = sym (gates-at g .gate-lines .ensures) ∙ ap (sectionWords _ _) (g .after-gates .given .1)
+gates-end g = sym (gates-at g .read-gates .ensures) ∙ ap (sectionWords _ _) (g .after-gates .given .1)
 
 -- ---- the needs
 
-input-lines-requires : tie.Need-input-lines-requires
-input-lines-requires c κs = search needs
+read-inputs-requires : tie.Need-read-inputs-requires
+read-inputs-requires c κs = search needs
 
 enum-known-refusal : tie.Need-enum-known-refusal
 enum-known-refusal c = search needs
@@ -81,8 +81,8 @@ enum-known-refusal c = search needs
 enum-known-after-inputs : tie.Need-enum-known-after-inputs
 enum-known-after-inputs c = search needs
 
-output-lines-requires : tie.Need-output-lines-requires
-output-lines-requires c κs = search needs
+read-outputs-requires : tie.Need-read-outputs-requires
+read-outputs-requires c κs = search needs
 
 enum-known-refusal-2 : tie.Need-enum-known-refusal-2
 enum-known-refusal-2 c = search needs
@@ -90,8 +90,8 @@ enum-known-refusal-2 c = search needs
 enum-known-after-outputs : tie.Need-enum-known-after-outputs
 enum-known-after-outputs c = search needs
 
-gate-lines-requires : tie.Need-gate-lines-requires
-gate-lines-requires c κs = search needs
+read-gates-requires : tie.Need-read-gates-requires
+read-gates-requires c κs = search needs
 
 enum-known-refusal-3 : tie.Need-enum-known-refusal-3
 enum-known-refusal-3 c = search needs
@@ -130,7 +130,7 @@ returns-2 : tie.Need-returns-2
 unfolding readingOf sectionWords
 returns-2 c =
     let p = c .before .before .before in
-    (sym (inputs-wrong (header p) (body p) (sym (p .input-lines .ensures) ∙ ap (sectionWords _ _) (c .before .refusal .given .1))), none-counted)
+    (sym (inputs-wrong (header p) (body p) (sym (p .read-inputs .ensures) ∙ ap (sectionWords _ _) (c .before .refusal .given .1))), none-counted)
 
 same-length-3 : tie.Need-same-length-3
 same-length-3 c = search needs
@@ -141,7 +141,7 @@ returns-3 c =
     let o = c .before .before .before .before .before in
     let a = before-outputs o in
     let p = inputs-at a in
-    (sym (outputs-wrong (header p) (body p) (inputs-end a) (sym (o .output-lines .ensures) ∙ ap (sectionWords _ _) (c .before .refusal2 .given .1))), none-counted)
+    (sym (outputs-wrong (header p) (body p) (inputs-end a) (sym (o .read-outputs .ensures) ∙ ap (sectionWords _ _) (c .before .refusal2 .given .1))), none-counted)
 
 same-length-4 : tie.Need-same-length-4
 same-length-4 c = search needs
@@ -156,7 +156,7 @@ returns-4 c =
     let b = before-gates m in
     let a = before-outputs (outputs-at b) in
     let p = inputs-at a in
-    (sym (gates-wrong (header p) (body p) (inputs-end a) (outputs-end b) (sym (m .gate-lines .ensures) ∙ ap (sectionWords _ _) (c .before .refusal3 .given .1))), none-counted)
+    (sym (gates-wrong (header p) (body p) (inputs-end a) (outputs-end b) (sym (m .read-gates .ensures) ∙ ap (sectionWords _ _) (c .before .refusal3 .given .1))), none-counted)
 
 same-length-6 : tie.Need-same-length-6
 same-length-6 c = search needs
@@ -177,17 +177,17 @@ returns-5 c =
       counts (limits .inputs-few) (limits .gates-few) (limits .outputs-few),
     )
 
-pub read-lines-spec : {M : Type 1} → statement M
-read-lines-spec =
+pub read-body-spec : {M : Type 1} → statement M
+read-body-spec =
     tie.close
     (tie.spec
-    input-lines-requires
+    read-inputs-requires
     enum-known-refusal
     enum-known-after-inputs
-    output-lines-requires
+    read-outputs-requires
     enum-known-refusal-2
     enum-known-after-outputs
-    gate-lines-requires
+    read-gates-requires
     enum-known-refusal-3
     enum-known-after-gates
     rest-is-skipped-requires

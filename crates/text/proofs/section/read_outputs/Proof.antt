@@ -1,4 +1,4 @@
--- `text::section::output_lines` meets its contract: the loop reads the lines needed, in order, up to the first that is not right, and stores their literals.
+-- `text::section::read_outputs` meets its contract: the loop reads the lines needed, in order, up to the first that is not right, and stores their literals.
 -- Assumes nothing.
 use mathlib.Core.Path.{_≡_, refl, sym}
 use Prim.Native.Nat.{ℕ, _+_, _*_, _-_, _≤_, _<_}
@@ -11,8 +11,8 @@ use lib.Seq.{take-suc-set}
 use Rattle.text.specs.Reading.{Needed, outputNeeded}
 use Rattle.text.specs.Places.{literalStep, outputWords, sectionWords}
 use Rattle.text.proofs.Sections.{SoFar, none-so-far, line-refused, line-fine}
-use Rattle.text.proofs.section.output_lines.Statement.{statement}
-use Rattle.text.proofs.section.output_lines.Tie as tie
+use Rattle.text.proofs.section.read_outputs.Statement.{statement}
+use Rattle.text.proofs.section.read_outputs.Tie as tie
 
 -- any literal up to the largest
 abbrev need : ℕ → ℕ → Needed
@@ -104,8 +104,8 @@ returns-2 c =
     let e : l .loop .k ≡ start l .args .header .outputs = omega arith in
     sym (rw (e, most-is l) at (l .loop .inv .2 .is))
 
-pub output-lines-spec : {M : Type 1} → statement M
-output-lines-spec =
+pub read-outputs-spec : {M : Type 1} → statement M
+read-outputs-spec =
     tie.close
     (tie.spec
     Inv-loop

@@ -1,4 +1,4 @@
--- `text::section::input_lines` meets its contract: the loop reads the lines needed, in order, up to the first that is not right.
+-- `text::section::read_inputs` meets its contract: the loop reads the lines needed, in order, up to the first that is not right.
 -- Assumes nothing.
 use mathlib.Core.Path.{_≡_, sym, ap}
 use mathlib.Core.List.{[]}
@@ -10,8 +10,8 @@ use lib.ListN.{drop}
 use Rattle.text.specs.Reading.{Needed, inputNeeded}
 use Rattle.text.specs.Places.{literalStep, noWords, sectionWords}
 use Rattle.text.proofs.Sections.{SoFar, none-so-far, line-refused, line-fine}
-use Rattle.text.proofs.section.input_lines.Statement.{statement}
-use Rattle.text.proofs.section.input_lines.Tie as tie
+use Rattle.text.proofs.section.read_inputs.Statement.{statement}
+use Rattle.text.proofs.section.read_inputs.Tie as tie
 
 -- input line k, counted from 0
 abbrev need : ℕ → Needed
@@ -81,8 +81,8 @@ returns-2 c =
     let e : l .loop .k ≡ l .before .before .args .header .inputs = omega arith in
     sym (rw e at (l .loop .inv .1 .is))
 
-pub input-lines-spec : {M : Type 1} → statement M
-input-lines-spec =
+pub read-inputs-spec : {M : Type 1} → statement M
+read-inputs-spec =
     tie.close
     (tie.spec
     Inv-loop

@@ -1,4 +1,4 @@
--- `text::section::gate_lines` meets its contract: the loop reads the lines needed, in order, up to the first that is not right, and stores their gates' words.
+-- `text::section::read_gates` meets its contract: the loop reads the lines needed, in order, up to the first that is not right, and stores their gates' words.
 -- Assumes nothing.
 use mathlib.Core.Path.{_≡_, refl, sym}
 use Prim.Native.Nat.{ℕ, suc, _+_, _*_, _-_, _≤_, _<_}
@@ -11,8 +11,8 @@ use Rattle.text.specs.Reading.{Needed, gateNeeded, gateWords}
 use Rattle.text.specs.Places.{gateStep, sectionWords}
 use Rattle.text.proofs.Sections.{SoFar, none-so-far, line-refused, line-fine}
 use Rattle.text.proofs.StoredWords.{take-laid}
-use Rattle.text.proofs.section.gate_lines.Statement.{statement}
-use Rattle.text.proofs.section.gate_lines.Tie as tie
+use Rattle.text.proofs.section.read_gates.Statement.{statement}
+use Rattle.text.proofs.section.read_gates.Tie as tie
 
 -- gate line k, counted from 0
 abbrev need : ℕ → ℕ → Needed
@@ -109,8 +109,8 @@ returns-2 c =
     let e : l .loop .k ≡ l .before .before .before .args .header .gates = omega arith in
     sym (rw e at (l .loop .inv .2 .is))
 
-pub gate-lines-spec : {M : Type 1} → statement M
-gate-lines-spec =
+pub read-gates-spec : {M : Type 1} → statement M
+read-gates-spec =
     tie.close
     (tie.spec
     Inv-loop
