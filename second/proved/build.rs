@@ -1,6 +1,7 @@
 //! Has the kit prove the crate `exports` and write its archive, and links it.
 
 use std::env;
+use std::fs;
 use std::path::Path;
 use std::process::Command;
 
@@ -16,8 +17,11 @@ fn main() {
         Ok(status) => panic!("rt staticlib exports: {status}"),
         Err(error) => panic!("the Rattle kit's rt cannot be started: {error}"),
     }
-    let archives = root.join("target/staticlib");
-    println!("cargo:rustc-link-search=native={}", archives.display());
+    // A copy of cargo's own: the kit's folder is emptied by `rt ci`.
+    let out = env::var("OUT_DIR").expect("cargo names a folder for what is made");
+    let archive = root.join("target/staticlib/libexports.a");
+    fs::copy(&archive, Path::new(&out).join("libexports.a")).expect("the archive is there");
+    println!("cargo:rustc-link-search=native={out}");
     println!("cargo:rustc-link-lib=static=exports");
     for source in ["crates", "crates.txt"] {
         println!("cargo:rerun-if-changed={}", root.join(source).display());

@@ -61,6 +61,7 @@ fn reads(name: &[u8], text: &[u8]) {
 
 fn read_bad_headers() {
     reads(b"leading zero", b"aag 01 1 0 0 0\n2\n");
+    reads(b"four counts", b"aag 65 65 0 0\n");
     reads(b"empty text", b"");
     reads(b"65 inputs", b"aag 65 65 0 0 0\n");
     reads(b"latches", b"aag 1 0 1 0 0\n2 2\n");
@@ -77,7 +78,6 @@ fn read_bad_lines() {
 }
 
 fn read_pairs() {
-    reads(b"1 and 2", b"aag 65 65 0 0\n");
     reads(b"2 and 3", b"aag 66 65 1 0 0\n");
     reads(b"3 and 4", b"aag 9 1 1 0 0\n2\n");
     reads(b"4 and 5", b"aag 9 1 0 0 0\nx\n");
@@ -117,6 +117,7 @@ fn read_long() {
     reads_filled(b"65,535 bytes", &mut just_so);
     let mut one_more = [b'c'; 65536];
     reads_filled(b"65,536 bytes", &mut one_more);
+    reads(b"1 and 2", &[b'c'; 65536]);
 }
 
 fn writes_into(name: &[u8], inputs: usize, gates: &[u32], outputs: &[u32], bytes: &mut [u8]) {

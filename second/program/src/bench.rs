@@ -1,5 +1,6 @@
 //! Times of the proved calls against this program's, as ratios of one run.
-//! Both take turns, and the best turn of each counts.
+//! Both take turns, and the best turn of each counts. Each call must be
+//! accepted.
 
 use model::Graph;
 use samples::graphs::{self, Size};
@@ -60,6 +61,7 @@ struct Buffers {
     gates: Vec<u32>,
     outputs: Vec<u32>,
     bytes: Vec<u8>,
+    counts: [usize; 3],
 }
 
 impl Default for Buffers {
@@ -68,35 +70,30 @@ impl Default for Buffers {
             gates: vec![0; 2048],
             outputs: vec![0; 64],
             bytes: vec![0; 65_535],
+            counts: [0; 3],
         }
     }
 }
 
 impl Buffers {
     fn read_proved(&mut self, text: &[u8]) {
-        black_box(proved::read(
-            black_box(text),
-            &mut self.gates,
-            &mut self.outputs,
-        ))
-        .ok();
+        let (gates, outputs) = (&mut self.gates, &mut self.outputs);
+        let number = proved::read(black_box(text), gates, outputs, &mut self.counts);
+        assert_eq!(number, 0);
     }
 
     fn read_second(&mut self, text: &[u8]) {
-        black_box(model::read(
-            black_box(text),
-            &mut self.gates,
-            &mut self.outputs,
-        ))
-        .ok();
+        let answer = model::read(black_box(text), &mut self.gates, &mut self.outputs);
+        assert!(answer.is_ok());
     }
 
     fn write_proved(&mut self, graph: &Graph) {
-        black_box(proved::write(black_box(graph), &mut self.bytes)).ok();
+        let number = proved::write(black_box(graph), &mut self.bytes, &mut self.counts[0]);
+        assert_eq!(number, 0);
     }
 
     fn write_second(&mut self, graph: &Graph) {
-        black_box(model::write(black_box(graph), &mut self.bytes)).ok();
+        assert!(model::write(black_box(graph), &mut self.bytes).is_ok());
     }
 }
 

@@ -38,9 +38,17 @@ impl Tally {
         Ok(())
     }
 
-    fn answer<T>(&mut self, answer: &Result<T, u32>) {
+    fn answer(&mut self, number: u32) {
         self.calls += 1;
-        self.answers[*answer.as_ref().err().unwrap_or(&0) as usize] += 1;
+        self.answers[number as usize] += 1;
+    }
+
+    /// The answers of the two calls that never came.
+    fn missing(&self) -> Vec<usize> {
+        let possible = (0..=7).chain([16]);
+        possible
+            .filter(|&number| self.answers[number] == 0)
+            .collect()
     }
 }
 
@@ -72,7 +80,12 @@ fn report(tally: &Tally, out: &mut dyn Write) -> io::Result<()> {
             write!(out, " {number}: {times}")?;
         }
     }
-    writeln!(out, "\n{} passed, {} failed", tally.passed, tally.failed)
+    let missing = tally.missing();
+    if !missing.is_empty() {
+        write!(out, "; never {missing:?}")?;
+    }
+    let failed = tally.failed + missing.len();
+    writeln!(out, "\n{} passed, {failed} failed", tally.passed)
 }
 
 // ---- reading
@@ -82,11 +95,22 @@ fn same_reading(random: &mut Random, text: &[u8], tally: &mut Tally) -> bool {
     rooms.into_iter().all(|(gates, outputs)| {
         let mut lent = (poisoned(random, gates), poisoned(random, outputs));
         let mut other = lent.clone();
-        let answer = proved::read(text, &mut lent.0, &mut lent.1);
-        let expected = model::read(text, &mut other.0, &mut other.1).map_err(Refusal::number);
-        tally.answer(&answer);
-        answer == expected && lent == other
+        let poison = [random.word() as usize; 3];
+        let mut counts = poison;
+        let number = proved::read(text, &mut lent.0, &mut lent.1, &mut counts);
+        let expected = model::read(text, &mut other.0, &mut other.1);
+        let expected = expected.map(|(inputs, gates, outputs)| [inputs as usize, gates, outputs]);
+        tally.answer(number);
+        (number, counts) == in_numbers(expected, poison) && lent == other
     })
+}
+
+/// An answer in numbers; what comes with it is as before where it is refused.
+fn in_numbers<T>(answer: Result<T, Refusal>, before: T) -> (u32, T) {
+    match answer {
+        Ok(values) => (0, values),
+        Err(refusal) => (refusal.number(), before),
+    }
 }
 
 /// Words for gates and for outputs: around the need of a graph that is stated,
@@ -94,7 +118,8 @@ fn same_reading(random: &mut Random, text: &[u8], tally: &mut Tally) -> bool {
 fn rooms(random: &mut Random, text: &[u8]) -> Vec<(usize, usize)> {
     let (mut gates, mut outputs) = (vec![0; 2 * MOST_GATES], vec![0; MOST_OUTPUTS]);
     let Ok((_, gates, outputs)) = model::read(text, &mut gates, &mut outputs) else {
-        return vec![(0, 0), (random.between(0, 9), random.between(0, 9))];
+        let some = (random.between(0, 9), random.between(0, 9));
+        return vec![(0, 0), some, (2 * MOST_GATES, MOST_OUTPUTS)];
     };
     let (gates, longer) = (2 * gates, random.between(1, 9));
     let mut rooms = vec![(gates, outputs), (gates + longer, outputs + longer)];
@@ -135,9 +160,11 @@ fn same_writing(random: &mut Random, graph: &Graph, tally: &mut Tally) -> bool {
             let mut lent = vec![0; room];
             lent.fill_with(|| random.word() as u8);
             let mut other = lent.clone();
-            let answer = proved::write(graph, &mut lent);
-            let expected = model::write(graph, &mut other).map_err(Refusal::number);
-            tally.answer(&answer);
-            answer == expected && lent == other
+            let poison = random.word() as usize;
+            let mut length = poison;
+            let number = proved::write(graph, &mut lent, &mut length);
+            let expected = model::write(graph, &mut other);
+            tally.answer(number);
+            (number, length) == in_numbers(expected, poison) && lent == other
         })
 }

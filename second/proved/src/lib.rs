@@ -29,17 +29,13 @@ extern "C" {
     ) -> u32;
 }
 
-/// Reads a text into lent lists; answers inputs, gates and outputs, or the
-/// refusal's number.
-pub fn read(
-    text: &[u8],
-    gates: &mut [u32],
-    outputs: &mut [u32],
-) -> Result<(u64, usize, usize), u32> {
-    let (mut inputs, mut gate_count, mut output_count) = (0, 0, 0);
-    // SAFETY: each pointer is a slice's or a local's, and goes with its length;
-    // the call keeps none of them.
-    let number = unsafe {
+/// Reads a text into lent lists. The answer is a refusal's number, or 0; then
+/// the counts are those of inputs, gates and outputs.
+pub fn read(text: &[u8], gates: &mut [u32], outputs: &mut [u32], counts: &mut [usize; 3]) -> u32 {
+    let [inputs, gate_count, output_count] = counts;
+    // SAFETY: each pointer is a slice's or a number's that is lent to this call
+    // alone, and a slice's goes with its length; the call keeps none of them.
+    unsafe {
         nenquilco_read(
             text.as_ptr(),
             text.len(),
@@ -47,20 +43,18 @@ pub fn read(
             gates.len(),
             outputs.as_mut_ptr(),
             outputs.len(),
-            &mut inputs,
-            &mut gate_count,
-            &mut output_count,
+            inputs,
+            gate_count,
+            output_count,
         )
-    };
-    accepted(number, (inputs as u64, gate_count, output_count))
+    }
 }
 
-/// Writes a graph's text to a lent buffer; answers its length, or the
-/// refusal's number.
-pub fn write(graph: &Graph, bytes: &mut [u8]) -> Result<usize, u32> {
-    let mut length = 0;
+/// Writes a graph's text to a lent buffer. The answer is a refusal's number, or
+/// 0; then the length is that of the text.
+pub fn write(graph: &Graph, bytes: &mut [u8], length: &mut usize) -> u32 {
     // SAFETY: as above.
-    let number = unsafe {
+    unsafe {
         nenquilco_write(
             graph.inputs as usize,
             graph.gates.as_ptr(),
@@ -69,16 +63,7 @@ pub fn write(graph: &Graph, bytes: &mut [u8]) -> Result<usize, u32> {
             graph.outputs.len(),
             bytes.as_mut_ptr(),
             bytes.len(),
-            &mut length,
+            length,
         )
-    };
-    accepted(number, length)
-}
-
-fn accepted<T>(number: u32, values: T) -> Result<T, u32> {
-    if number == 0 {
-        Ok(values)
-    } else {
-        Err(number)
     }
 }

@@ -1,26 +1,24 @@
-//! The texts to compare: stated graphs, damage of every sort, first lines at
-//! the limits, noise, long texts.
+//! The texts to compare: stated graphs, damage of every sort, single numbers
+//! and first lines at the limits, rests, noise, long texts.
 
 use samples::damage::{damaged, ODD_NUMBERS};
 use samples::graphs::{self, Size};
-use samples::texts::{mixed, of_length, valid};
+use samples::texts::{mixed, valid, BAD_RESTS};
 use samples::Random;
 
 type Sort = fn(&mut Random) -> Vec<u8>;
 
 /// Each sort by name, how many texts of it, and how one is drawn.
-pub const SORTS: [(&str, usize, Sort); 7] = [
-    (
-        "stated graphs, any order of right sides, rests",
-        5_000,
-        stated,
-    ),
+pub const SORTS: [(&str, usize, Sort); 9] = [
+    ("stated graphs, any order, any rest", 5_000, stated),
     ("damaged once to three times", 9_000, wrong),
+    ("one number at the edge of its rule", 1_500, edge),
+    ("a rest that may be wrong", 1_000, rest),
     ("cut anywhere", 2_000, cut),
     ("first lines at the limits, odd numbers", 4_000, header),
     ("noise", 2_500, noise),
     ("up to 1,024 gates, whole or damaged", 400, large),
-    ("around 65,535 bytes", 100, long),
+    ("around 65,535 bytes, good or wrong", 400, long),
 ];
 
 fn stated(random: &mut Random) -> Vec<u8> {
@@ -31,6 +29,42 @@ fn stated(random: &mut Random) -> Vec<u8> {
 fn wrong(random: &mut Random) -> Vec<u8> {
     let text = stated(random);
     damaged(random, &text)
+}
+
+/// A number of a later line beside its value, its line's first number or the
+/// largest literal.
+fn edge(random: &mut Random) -> Vec<u8> {
+    let graph = graphs::any(random);
+    let text = String::from_utf8(mixed(random, &graph)).expect("a text is ASCII");
+    let mut lines: Vec<Vec<String>> = text.lines().map(fields).collect();
+    if lines.len() > 1 {
+        let line = random.between(1, lines.len() - 1);
+        let place = random.between(0, lines[line].len() - 1);
+        let near = [&lines[line][place], &lines[line][0]].map(|field| value(field));
+        let near = [near[0], near[1], graph.last_var().lit(true).0];
+        let beside = random.word_between(0, 4);
+        lines[line][place] = (random.pick(&near) + beside).saturating_sub(2).to_string();
+    }
+    let whole: String = lines.iter().map(|line| line.join(" ") + "\n").collect();
+    whole.into_bytes()
+}
+
+fn fields(line: &str) -> Vec<String> {
+    line.split(' ').map(str::to_string).collect()
+}
+
+fn value(field: &str) -> u32 {
+    field.parse().expect("a field of a later line is a number")
+}
+
+fn rest(random: &mut Random) -> Vec<u8> {
+    let graph = graphs::small(random);
+    let mut text = mixed(random, &graph);
+    match random.coin() {
+        true => text.extend(random.pick(&BAD_RESTS).bytes()),
+        false => text.push(random.word() as u8),
+    }
+    text
 }
 
 fn cut(random: &mut Random) -> Vec<u8> {
@@ -94,7 +128,13 @@ fn large(random: &mut Random) -> Vec<u8> {
     }
 }
 
+/// Any text, filled up with a comment, so that 2 meets every other refusal.
 fn long(random: &mut Random) -> Vec<u8> {
-    let graph = graphs::small(random);
-    of_length(&graph, random.between(65_530, 65_540))
+    let mut text = match random.between(0, 3) {
+        0 => header(random),
+        1 => wrong(random),
+        _ => stated(random),
+    };
+    text.resize(random.between(65_530, 65_540), b'c');
+    text
 }
