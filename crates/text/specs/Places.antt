@@ -1,4 +1,5 @@
 -- What the code's answers mean. A place in a lent text stands for the text from there on; words kept aside stand for a graph.
+-- Only contracts inside the crate speak of these.
 -- Assumes nothing.
 use Prim.Native.Nat.{ℕ, _+_, _-_, _*_, _≤_}
 use mathlib.Core.Path.{_≡_}
@@ -81,7 +82,7 @@ verdictIs (Verdict.Refused r) = some r
 unfoldable pub lineRefusal : Bool → Bool → Option Refusal
 lineRefusal found kept = cond found (cond kept none (some BadLiteral)) (some BadLine)
 
--- the limits of a header that is not refused
+-- what the lines need of a header that is not refused
 pub record Limited (h : Header) : Type 0 where
   pub inputs-few : h .inputs ≤ mostInputs
   pub outputs-few : h .outputs ≤ mostOutputs
