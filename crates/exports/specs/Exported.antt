@@ -1,10 +1,11 @@
 -- The public calls in numbers: document 01's number and the values that come with it, over what was lent.
 -- Assumes nothing.
 use Prim.Native.Nat.{ℕ}
+use mathlib.Core.Path.{_≡_}
 use mathlib.Core.List.{List}
 use Rattle.graph.specs.Refuse.{Outcome}
 use Rattle.graph.specs.Graph.{graphOf}
-use Rattle.graph.specs.Lent.{Buffers, buffersOf, Effect}
+use Rattle.graph.specs.Lent.{written, Buffers, buffersOf, Effect}
 use Rattle.text.specs.declared.ReadText.{ReadText}
 use Rattle.text.specs.declared.WrittenText.{WrittenText}
 use Rattle.text.specs.Calls.{readEffect, readOutcome, writeEffect, writtenOutcome}
@@ -20,3 +21,9 @@ writes inputs gates outputs bytes = writeEffect (graphOf inputs gates outputs) b
 
 abbrev pub writtenNumbers : ℕ → List ℕ → List ℕ → List ℕ → Outcome
 writtenNumbers inputs gates outputs bytes = writtenOutcome ((writes inputs gates outputs bytes) .answer)
+
+-- what a call in numbers comes to: its number, the numbers behind its references, which a refusal leaves as they were, and what it leaves in lent memory
+pub record Told {L : Type 0} (outcome : Outcome) (lent : L) (before : List ℕ) (r : ℕ) (after : List ℕ) (left : L) : Type 0 where
+  pub number : r ≡ outcome .number
+  pub values : after ≡ written (outcome .values) before
+  pub leaves : left ≡ lent

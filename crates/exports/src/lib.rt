@@ -1,9 +1,8 @@
 // The public calls for programs in other languages, on numbers and slices. Each answers document 01's number, which is 0 where the
 // call is accepted; what else it answers goes through references, which a refusal leaves as they were.
-ghost use mathlib.Core.Path.{_≡_};
 ghost use mathlib.Core.List.{[], _∷_};
-ghost use Rattle.graph.specs.Lent.{written, buffersOf};
-ghost use Rattle.exports.specs.Exported.{reads, readNumbers, writes, writtenNumbers};
+ghost use Rattle.graph.specs.Lent.{buffersOf};
+ghost use Rattle.exports.specs.Exported.{reads, readNumbers, writes, writtenNumbers, Told};
 use text::ReadText;
 use text::WrittenText;
 
@@ -17,10 +16,9 @@ pub extern "C" fn nenquilco_read(
     a: &mut usize,
     o: &mut usize,
 ) -> u32
-    ensures { λ r. ⌜ r ≡ (readNumbers (now (text .entry)) (now (gates .entry)) (now (outputs .entry))) .number ⌝ }
-    ensures { λ _. ⌜ now (i .exit) ∷ now (a .exit) ∷ now (o .exit) ∷ []
-        ≡ written ((readNumbers (now (text .entry)) (now (gates .entry)) (now (outputs .entry))) .values) (now (i .entry) ∷ now (a .entry) ∷ now (o .entry) ∷ []) ⌝ }
-    ensures { λ _. ⌜ buffersOf (now (gates .exit)) (now (outputs .exit)) ≡ (reads (now (text .entry)) (now (gates .entry)) (now (outputs .entry))) .lent ⌝ }
+    ensures { λ r. ⌜ Told (readNumbers (now (text .entry)) (now (gates .entry)) (now (outputs .entry)))
+        ((reads (now (text .entry)) (now (gates .entry)) (now (outputs .entry))) .lent) (now (i .entry) ∷ now (a .entry) ∷ now (o .entry) ∷ [])
+        r (now (i .exit) ∷ now (a .exit) ∷ now (o .exit) ∷ []) (buffersOf (now (gates .exit)) (now (outputs .exit))) ⌝ }
 {
     match text::read(text, gates, outputs) {
         ReadText::Refused(refusal) => refusal.number(),
@@ -46,10 +44,8 @@ pub extern "C" fn nenquilco_write(
     bytes: &mut [u8],
     n: &mut usize,
 ) -> u32
-    ensures { λ r. ⌜ r ≡ (writtenNumbers inputs (now (gates .entry)) (now (outputs .entry)) (now (bytes .entry))) .number ⌝ }
-    ensures { λ _. ⌜ now (n .exit) ∷ []
-        ≡ written ((writtenNumbers inputs (now (gates .entry)) (now (outputs .entry)) (now (bytes .entry))) .values) (now (n .entry) ∷ []) ⌝ }
-    ensures { λ _. ⌜ now (bytes .exit) ≡ (writes inputs (now (gates .entry)) (now (outputs .entry)) (now (bytes .entry))) .lent ⌝ }
+    ensures { λ r. ⌜ Told (writtenNumbers inputs (now (gates .entry)) (now (outputs .entry)) (now (bytes .entry)))
+        ((writes inputs (now (gates .entry)) (now (outputs .entry)) (now (bytes .entry))) .lent) (now (n .entry) ∷ []) r (now (n .exit) ∷ []) (now (bytes .exit)) ⌝ }
 {
     match text::write(inputs, gates, outputs, bytes) {
         WrittenText::Refused(refusal) => refusal.number(),

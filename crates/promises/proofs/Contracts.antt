@@ -5,16 +5,20 @@ use mathlib.Core.Path.{_≡_, refl, sym, ap, _∙_, subst⁻¹}
 use mathlib.Core.Bool.{false}
 use mathlib.Core.List.{List}
 use Prim.Native.Nat.{ℕ, _≤_}
+use native.Mathlib.Omega.{arith}
 use borrow.Author.Tests.{le-ltb}
-use lib.ListN.{length, take}
-use Rattle.graph.specs.Graph.{Graph, size}
+use lib.ListN.{length, take, length-take}
+use Rattle.graph.specs.declared.refusal.Refusal.{Refusal}
+use Rattle.graph.specs.Graph.{Graph, size, WellFormed}
 use Rattle.graph.specs.Lent.{short, Buffers, noRoomFor, storedIn, Effect, _leaving_}
 use Rattle.text.specs.declared.ReadText.{ReadText}
 use Rattle.text.specs.declared.WrittenText.{WrittenText}
 use Rattle.text.specs.States.{textOf}
 use Rattle.text.specs.Reading.{yields, reading, Stated}
+use Rattle.text.specs.Refusals.{WriteGiven}
 use Rattle.text.specs.Calls.{withRoom, readEffect, readOutcome, writeEffect, writtenOutcome}
 use Rattle.text.proofs.Reading.{reading-iff}
+use Rattle.text.proofs.Refusals.{write-answers}
 use Rattle.promises.specs.Promises.{Holds}
 use Rattle.promises.proofs.Stored.{holds-stored}
 use Rattle.promises.proofs.Accepted.{read-leaves-stated, write-leaves-text, write-then-read}
@@ -79,6 +83,13 @@ module _ (g : Graph) (lent bytes : List ℕ) (n : ℕ) (written-now : WrittenTex
   unfolding bytes-of
   n-is = ap (λ (e : Effect WrittenText (List ℕ)). bytes-of (e .answer)) written-now ∙ ap bytes-of (write-leaves-text g lent accepted .1)
 
+  -- the bytes written are among those lent
+  pub written-is-within : n ≤ length bytes
+  written-is-within =
+      let stored = ap length (write-leaves-text g lent accepted .2 .first-places) in
+      let same = ap (λ (e : Effect WrittenText (List ℕ)). length (e .lent)) written-now in
+      omega (arith, n-is, simp length-take at stored)
+
   read-back : reading (take n bytes) ≡ yields g
   read-back = rw (n-is, ap (λ (e : Effect WrittenText (List ℕ)). e .lent) written-now) (write-then-read g lent accepted)
 
@@ -86,3 +97,15 @@ module _ (g : Graph) (lent bytes : List ℕ) (n : ℕ) (written-now : WrittenTex
       → length (g .net .gates) ≤ length (b .gates) → length (g .outputs) ≤ length (b .outputs)
       → (r ≡ ReadText.Graph (g .net .inputs) (size (g .net)) (length (g .outputs))) × Holds g b after
   written-and-read-again b after r met = stated-is-read (take n bytes) b after r met g (reading-iff (take n bytes) g .0 read-back)
+
+-- a well-formed graph with room for its text is not refused
+pub written-with-room : (g : Graph) (lent bytes : List ℕ) (q : Refusal) → WrittenText.Refused q leaving bytes ≡ writeEffect g lent → WellFormed g
+    → length (textOf g) ≤ length lent → ⊥
+unfolding writtenOutcome
+written-with-room g lent bytes q refused-now ok fits =
+    let refused = ap (λ (e : Effect WrittenText (List ℕ)). (writtenOutcome (e .answer)) .number) refused-now in
+    go (write-answers g lent .refuses q .0 (sym refused) .holds)
+  where
+    go : {r : Refusal} → WriteGiven g lent r → ⊥
+    go (WriteGiven.bad-graph h) = h ok
+    go (WriteGiven.no-room h) = omega arith

@@ -1,6 +1,6 @@
--- What a customer is promised: of every call, and of a graph that took another's place.
+-- What a customer is promised: of every call, of a graph that took another's place, and of calls in a row.
 -- Assumes nothing.
-use Prim.Native.Nat.{ℕ, _*_, _<_}
+use Prim.Native.Nat.{ℕ, _*_, _≤_, _<_}
 use mathlib.Core.Path.{_≡_}
 use mathlib.Core.Bool.{Bool}
 use mathlib.Core.List.{List}
@@ -12,6 +12,8 @@ use Rattle.graph.specs.Literal.{varOf}
 use Rattle.graph.specs.Graph.{Graph, size, first, second, IsGate, WellFormed}
 use Rattle.graph.specs.Evaluate.{outputsUnder}
 use Rattle.graph.specs.Use.{InUse}
+use Rattle.text.specs.declared.ReadText.{ReadText}
+use Rattle.text.specs.States.{textOf}
 
 -- demand 1: the call's number is the one that the order of refusals selects, and a refusal writes nothing into lent memory
 pub record Settled {L : Type 0} (given : Refusal → Type 0) (number : ℕ) (lent-before lent-after : L) : Type 0 where
@@ -42,3 +44,15 @@ pub record Holds (h : Graph) (before after : Buffers) : Type 0 where
   pub gate-words : length (h .net .gates) ≡ 2 * size (h .net)
   pub gates-stored : Stored (h .net .gates) (before .gates) (after .gates)
   pub outputs-stored : Stored (h .outputs) (before .outputs) (after .outputs)
+
+-- ---- calls in a row
+
+-- g was written into lent bytes and what was written read into lent lists: a well-formed g for which there is room comes back
+abbrev pub WrittenAgain : Graph → List ℕ → Buffers → ReadText → Buffers → Type 0
+WrittenAgain g bytes before r after =
+    WellFormed g → length (textOf g) ≤ length bytes → length (g .net .gates) ≤ length (before .gates) → length (g .outputs) ≤ length (before .outputs)
+    → (r ≡ ReadText.Graph (g .net .inputs) (size (g .net)) (length (g .outputs))) × Holds g before after
+
+-- a call was made twice, each time on lent memory of its own: where both held the same before, the answers are the same, and both hold the same after
+abbrev pub SameAgain : {A L : Type 0} → L → A → L → L → A → L → Type 0
+SameAgain before r after before′ r′ after′ = before ≡ before′ → (r ≡ r′) × (after ≡ after′)

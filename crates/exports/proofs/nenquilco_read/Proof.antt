@@ -3,7 +3,7 @@
 use mathlib.Core.Path.{_∙_}
 use Rattle.graph.specs.Lent.{written}
 use Rattle.text.specs.Calls.{readOutcome}
-use Rattle.exports.proofs.Told.{told}
+use Rattle.exports.proofs.Answer.{answer-told}
 use borrow.Author.Needs.{needs}
 use Rattle.exports.proofs.nenquilco_read.Statement.{statement}
 use Rattle.exports.proofs.nenquilco_read.Tie as tie
@@ -31,7 +31,7 @@ unfolding readOutcome written
 returns c =
     let p = c .before .before .before .before .before .before .before .before in
     let q = c .before .before .refusal .given .1 in
-    told readOutcome _ _ _ (p .read .ensures) _ (c .number .ensures ∙ rw q) _ _ (rw q)
+    answer-told readOutcome _ _ _ (p .read .ensures) _ (c .number .ensures ∙ rw q) _ _ (rw q)
 
 same-length-3 : tie.Need-same-length-3
 same-length-3 c = search needs
@@ -44,7 +44,7 @@ unfolding readOutcome written
 returns-2 c =
     let p = c .before .before .before .before .before .before .before in
     let q = c .before .inputs .given .1 in
-    told readOutcome _ _ _ (p .read .ensures) _ (rw q) _ _ (rw q)
+    answer-told readOutcome _ _ _ (p .read .ensures) _ (rw q) _ _ (rw q)
 
 pub nenquilco-read-spec : {M : Type 1} → statement M
 nenquilco-read-spec =

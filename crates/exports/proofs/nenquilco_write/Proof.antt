@@ -3,7 +3,7 @@
 use mathlib.Core.Path.{_∙_}
 use Rattle.graph.specs.Lent.{written}
 use Rattle.text.specs.Calls.{writtenOutcome}
-use Rattle.exports.proofs.Told.{told}
+use Rattle.exports.proofs.Answer.{answer-told}
 use borrow.Author.Needs.{needs}
 use Rattle.exports.proofs.nenquilco_write.Statement.{statement}
 use Rattle.exports.proofs.nenquilco_write.Tie as tie
@@ -28,7 +28,7 @@ unfolding writtenOutcome written
 returns c =
     let p = c .before .before .before .before .before .before in
     let q = c .before .before .refusal .given .1 in
-    told writtenOutcome _ _ _ (p .write .ensures) _ (c .number .ensures ∙ rw q) _ _ (rw q)
+    answer-told writtenOutcome _ _ _ (p .write .ensures) _ (c .number .ensures ∙ rw q) _ _ (rw q)
 
 same-length-2 : tie.Need-same-length-2
 same-length-2 c = search needs
@@ -38,7 +38,7 @@ unfolding writtenOutcome written
 returns-2 c =
     let p = c .before .before .before .before .before in
     let q = c .before .length .given .1 in
-    told writtenOutcome _ _ _ (p .write .ensures) _ (rw q) _ _ (rw q)
+    answer-told writtenOutcome _ _ _ (p .write .ensures) _ (rw q) _ _ (rw q)
 
 pub nenquilco-write-spec : {M : Type 1} → statement M
 nenquilco-write-spec =
