@@ -1,23 +1,23 @@
 -- What the code's tests of a graph come to, one at a time.
 -- Assumes nothing.
-use mathlib.Core.Path.{_≡_, refl, sym, ap, _∙_}
-use mathlib.Core.Bool.{Bool, true, false, _&&_}
-use mathlib.Core.List.{List, [], _∷_}
-use mathlib.Core.Logic.{⊎-elim}
-use Prim.Native.Nat.{ℕ, zero, suc, _+_, _-_, _*_, _/_, _%_, _<_, _≤_}
-use native.Mathlib.Nat.{le-of-suc-le-suc, not-suc-le-zero}
+use mathlib.Core.Path.{_≡_, refl, sym, _∙_}
+use mathlib.Core.Bool.{Bool, true, false, _&&_, false≢true}
+use mathlib.Core.List.{List}
+use Prim.Native.Nat.{ℕ, suc, _+_, _*_, _/_, _%_, _<_, _≤_}
 use native.Mathlib.Numerals.{add-one}
 use native.Mathlib.Omega.{arith}
 use borrow.Author.Tests.{eq-eqb, ne-eqb, le-leb, lt-leb}
 use lib.Dec.{leb, ltb}
 use lib.ListN.{length, getD}
 use Rattle.graph.specs.Lists.{every, allBelow, all}
-use Rattle.graph.specs.Graph.{netOf, graphOf, first, second, gateOk, sinkOk, rules, wellFormed, mostInputs, mostOutputs, mostGates}
-use Rattle.graph.proofs.Lists.{at-most-or-above}
+use Rattle.graph.specs.Graph.{netOf, graphOf, gateOk, sinkOk, rules, wellFormed, mostInputs, mostOutputs, mostGates}
+use Rattle.graph.proofs.Lists.{every-at, allBelow-at, all-at}
+use Rattle.graph.proofs.WellFormed.{first-at, second-at}
 
-and-false : (b : Bool) → b && false ≡ false
-and-false true = refl
-and-false false = refl
+-- where c holds if b does, a c that fails decides b
+fails-with : (b c : Bool) → (b ≡ true → c ≡ true) → c ≡ false → b ≡ false
+fails-with true c h e = absurd (false≢true (sym e ∙ h refl))
+fails-with false c h e = refl
 
 -- ---- a test at each number in turn
 
@@ -28,47 +28,28 @@ module _ (f : ℕ → Bool) where
 
   -- one failure decides
   pub all-stop : (k n : ℕ) → k < n → f k ≡ false → allBelow f n ≡ false
-  unfolding allBelow
-  all-stop k zero h e = absurd (omega arith)
-  all-stop k (suc n) h e = ⊎-elim
-      (λ l. ap (λ b. f n && b) (all-stop k n l e) ∙ and-false (f n))
-      (λ l. let q : k ≡ n = omega arith in ap (λ b. b && allBelow f n) (ap f (sym q) ∙ e))
-      (at-most-or-above (suc k) n)
+  all-stop k n h e = fails-with _ _ (λ t. allBelow-at f n t k h) e
 
 -- a test at each element in turn
 module _ (f : ℕ → Bool) where
   pub each-stop : (xs : List ℕ) (k : ℕ) → k < length xs → f (getD xs k 0) ≡ false → all f xs ≡ false
-  unfolding all
-  each-stop [] k h e = absurd (not-suc-le-zero h)
-  each-stop (x ∷ xs) zero h e = ap (λ b. b && all f xs) e
-  each-stop (x ∷ xs) (suc k) h e = ap (λ b. f x && b) (each-stop xs k (le-of-suc-le-suc h) e) ∙ and-false (f x)
+  each-stop xs k h e = fails-with _ _ (λ t. all-at f 0 xs t k h) e
 
 -- ---- a gate
 
 module _ (i : ℕ) (gs : List ℕ) (k : ℕ) where
-  first-at : first (netOf i gs) (suc (i + k)) ≡ getD gs (2 * k) 0
-  unfolding first
-  first-at = let e : suc (i + k) - suc i ≡ k = omega arith in ap (λ j. getD gs (2 * j) 0) e
-
-  second-at : second (netOf i gs) (suc (i + k)) ≡ getD gs (2 * k + 1) 0
-  unfolding second
-  second-at = let e : suc (2 * (suc (i + k) - suc i)) ≡ 2 * k + 1 = omega arith in ap (λ j. getD gs j 0) e
-
   pub gate-bad : getD gs (2 * k) 0 < getD gs (2 * k + 1) 0 → gateOk (netOf i gs) (suc (i + k)) ≡ false
   unfolding gateOk
-  gate-bad h = rw (first-at, second-at, lt-leb _ _ h)
+  gate-bad h = rw (first-at (netOf i gs) k, second-at (netOf i gs) k, lt-leb _ _ h)
 
   pub gate-good : getD gs (2 * k + 1) 0 ≤ getD gs (2 * k) 0 → gateOk (netOf i gs) (suc (i + k)) ≡ ltb (getD gs (2 * k) 0) (2 * (i + k + 1))
   unfolding gateOk
-  gate-good h = let e : 2 * suc (i + k) ≡ 2 * (i + k + 1) = omega arith in rw (first-at, second-at, le-leb _ _ h, e)
+  gate-good h = let e : 2 * suc (i + k) ≡ 2 * (i + k + 1) = omega arith in rw (first-at (netOf i gs) k, second-at (netOf i gs) k, le-leb _ _ h, e)
 
 -- ---- the whole graph
 
 every-fails : (bs : List Bool) (k : ℕ) → getD bs k true ≡ false → every bs ≡ false
-unfolding every
-every-fails [] k e = e
-every-fails (b ∷ bs) zero e = ap (λ x. x && every bs) e
-every-fails (b ∷ bs) (suc k) e = ap (λ x. b && x) (every-fails bs k e) ∙ and-false b
+every-fails bs k e = fails-with _ _ (λ t. every-at bs t k) e
 
 module _ (i : ℕ) (gs os : List ℕ) where
   abbrev pub gatesPass : Bool

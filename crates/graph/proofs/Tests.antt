@@ -4,8 +4,8 @@ use mathlib.Core.Path.{_≡_, refl, sym, _∙_}
 use mathlib.Core.Bool.{Bool, true, false, false≢true, not, _||_}
 use mathlib.Core.List.{List}
 use mathlib.Core.Logic.{_↔_, _⊎_, inl, inr, ⊎-elim}
-use Prim.Native.Nat.{ℕ, _<_}
-use borrow.Author.Tests.{ltb-true, lt-ltb, eqb-true, eq-eqb, not-true, not-false}
+use Prim.Native.Nat.{ℕ, _≤_, _<_}
+use borrow.Author.Tests.{ltb-true, lt-ltb, le-ltb, eqb-true, eq-eqb, not-true, not-false}
 use lib.Dec.{ltb, eqb}
 use lib.ListN.{length}
 use Rattle.graph.specs.Lent.{short, Buffers, noRoomFor, NoRoomFor, few-gate-words, few-output-words}
@@ -46,3 +46,7 @@ no-room-iff g b =
     sides : NoRoomFor g b → (length (b .gates) < length (g .net .gates)) ⊎ (length (b .outputs) < length (g .outputs))
     sides (few-gate-words h) = inl h
     sides (few-output-words h) = inr h
+
+pub room-for : (g : Graph) (b : Buffers) → length (g .net .gates) ≤ length (b .gates) → length (g .outputs) ≤ length (b .outputs) → noRoomFor g b ≡ false
+unfolding noRoomFor short
+room-for g b gates-fit outputs-fit = rw (le-ltb _ _ gates-fit, le-ltb _ _ outputs-fit)

@@ -35,6 +35,16 @@ module _ (net : Net) (v : ℕ) where
   unfolding gateOk
   gate-ok h l = and-both _ _ (le-leb _ _ h) (lt-ltb _ _ l)
 
+-- the literals of the net's gates, counted from 0 on, among its words
+module _ (net : Net) (k : ℕ) where
+  pub first-at : first net (suc (free net + k)) ≡ getD (net .gates) (2 * k) 0
+  unfolding first
+  first-at = let q : 2 * (suc (free net + k) - suc (free net)) ≡ 2 * k = omega arith in ap (λ (j : ℕ). getD (net .gates) j 0) q
+
+  pub second-at : second net (suc (free net + k)) ≡ getD (net .gates) (2 * k + 1) 0
+  unfolding second
+  second-at = let q : suc (2 * (suc (free net + k) - suc (free net))) ≡ 2 * k + 1 = omega arith in ap (λ (j : ℕ). getD (net .gates) j 0) q
+
 -- gates are tested by their number from 0 on, and spoken of by their variable
 module _ (net : Net) where
   gates-at : allBelow (λ k. gateOk net (suc (free net + k))) (size net) ≡ true → (v : ℕ) → IsGate net v → gateOk net v ≡ true

@@ -27,7 +27,7 @@ use Rattle.text.specs.States.{textOf}
 use Rattle.text.specs.Reading.{Stated, Reading, refuses, yields, reading}
 use Rattle.text.specs.Refusals.{WriteGiven}
 use Rattle.text.specs.Calls.{withRoom, readEffect, readOutcome, writeRefusals, writeEffect, writtenOutcome}
-use Rattle.text.proofs.Reading.{reading-iff}
+use Rattle.text.proofs.Reading.{reading-iff, reads-graph}
 use Rattle.text.proofs.Refusals.{write-answers}
 use Rattle.text.proofs.RoundTrip.{round-trip}
 use Rattle.window.specs.declared.Leaves.{Leaves}
@@ -83,11 +83,10 @@ module _ (t : List ℕ) (b : Buffers) (accepted : (readOutcome ((readEffect t b)
       × Stated t g
       × ((readEffect t b) .answer ≡ ReadText.Graph (g .net .inputs) (size (g .net)) (length (g .outputs)))
       × Holds g b ((readEffect t b) .lent)
-  unfolding readEffect withRoom
   read-leaves-stated =
       let (g, e, room) = read-yields in
       let stated = reading-iff t g .0 e in
-      rw (e, readEffect, withRoom, room) (g, stated, refl, holds-stored g b (stated .well-formed))
+      rw (reads-graph t b g e room) (g, stated, refl, holds-stored g b (stated .well-formed))
 
 -- ---- writing
 

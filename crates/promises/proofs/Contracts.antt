@@ -2,22 +2,21 @@
 -- read again is that graph.
 -- Assumes nothing.
 use mathlib.Core.Path.{_≡_, refl, sym, ap, _∙_, subst⁻¹}
-use mathlib.Core.Bool.{false}
 use mathlib.Core.List.{List}
 use Prim.Native.Nat.{ℕ, _≤_}
 use native.Mathlib.Omega.{arith}
-use borrow.Author.Tests.{le-ltb}
 use lib.ListN.{length, take, length-take}
 use Rattle.graph.specs.declared.refusal.Refusal.{Refusal}
 use Rattle.graph.specs.Graph.{Graph, size, WellFormed}
-use Rattle.graph.specs.Lent.{short, Buffers, noRoomFor, storedIn, Effect, _leaving_}
+use Rattle.graph.specs.Lent.{Buffers, Effect, _leaving_}
+use Rattle.graph.proofs.Tests.{room-for}
 use Rattle.text.specs.declared.ReadText.{ReadText}
 use Rattle.text.specs.declared.WrittenText.{WrittenText}
 use Rattle.text.specs.States.{textOf}
 use Rattle.text.specs.Reading.{yields, reading, Stated}
 use Rattle.text.specs.Refusals.{WriteGiven}
-use Rattle.text.specs.Calls.{withRoom, readEffect, readOutcome, writeEffect, writtenOutcome}
-use Rattle.text.proofs.Reading.{reading-iff}
+use Rattle.text.specs.Calls.{readEffect, readOutcome, writeEffect, writtenOutcome}
+use Rattle.text.proofs.Reading.{reading-iff, reads-graph}
 use Rattle.text.proofs.Refusals.{write-answers}
 use Rattle.promises.specs.Promises.{Holds}
 use Rattle.promises.proofs.Stored.{holds-stored}
@@ -41,17 +40,9 @@ write-has-one-result g lent = one-effect
 module _ (t : List ℕ) (b after : Buffers) (r : ReadText) (met : r leaving after ≡ readEffect t b) where
   -- a text that states a graph within the limits is read as that graph, where there is room for it
   module _ (g : Graph) (stated : Stated t g) (gates-fit : length (g .net .gates) ≤ length (b .gates)) (outputs-fit : length (g .outputs) ≤ length (b .outputs)) where
-    room : noRoomFor g b ≡ false
-    unfolding noRoomFor short
-    room = rw (le-ltb _ _ gates-fit, le-ltb _ _ outputs-fit)
-
-    effect-is : readEffect t b ≡ ReadText.Graph (g .net .inputs) (size (g .net)) (length (g .outputs)) leaving storedIn (g .net .gates) (g .outputs) b
-    unfolding readEffect withRoom
-    effect-is = rw (reading-iff t g .1 stated, readEffect, withRoom, room)
-
     pub stated-is-read : (r ≡ ReadText.Graph (g .net .inputs) (size (g .net)) (length (g .outputs))) × Holds g b after
     stated-is-read =
-        let (answer, lent-after) = one-effect _ _ _ _ (met ∙ effect-is) refl in
+        let (answer, lent-after) = one-effect _ _ _ _ (met ∙ reads-graph t b g (reading-iff t g .1 stated) (room-for g b gates-fit outputs-fit)) refl in
         (answer, rw lent-after (holds-stored g b (stated .well-formed)))
 
   -- and nothing else is read

@@ -1,22 +1,21 @@
 -- A text read into words kept aside: what the lent lists hold afterwards.
 -- Assumes nothing.
 use mathlib.Core.Path.{_≡_, sym, ap₂, _∙_}
-use mathlib.Core.Bool.{false}
 use mathlib.Core.List.{List}
 use Prim.Native.Nat.{ℕ, _*_, _/_, _≤_, _<_}
 use native.Mathlib.Omega.{arith}
-use borrow.Author.Tests.{le-ltb}
 use lib.ListN.{length, take}
 use lib.Seq.{length-take-le}
 use Rattle.graph.specs.declared.refusal.Refusal.{Refusal}
 use Rattle.graph.specs.declared.refusal.Refusal.the-variants.{NoRoom}
 use Rattle.graph.specs.Graph.{Graph, graphOf, mostGates, mostOutputs}
-use Rattle.graph.specs.Lent.{Buffers, noRoomFor, NoRoomFor, few-gate-words, few-output-words, storedIn, _leaving_}
-use Rattle.graph.proofs.Tests.{no-room-iff}
+use Rattle.graph.specs.Lent.{Buffers, NoRoomFor, few-gate-words, few-output-words, storedIn, _leaving_}
+use Rattle.graph.proofs.Tests.{no-room-iff, room-for}
 use Rattle.text.specs.declared.ReadText.{ReadText}
 use Rattle.text.specs.Reading.{yields, reading}
 use Rattle.text.specs.Calls.{withRoom, readEffect}
 use Rattle.text.specs.Places.{readingOf, Counted, counts}
+use Rattle.text.proofs.Reading.{reads-graph}
 
 -- the answer x, and the words aside, are what the text t is read as
 pub record Aside (t gs os : List ℕ) (x : ReadText) : Type 0 where
@@ -63,9 +62,7 @@ module _ {t gs os : List ℕ} {x : ReadText} (l : Aside t gs os x) where
 
       pub room-enough : 2 * a ≤ length (b .gates) → o ≤ length (b .outputs)
           → ReadText.Graph i a o leaving storedIn (take (2 * a) gs) (take o os) b ≡ readEffect t b
-      unfolding readEffect withRoom noRoomFor
       room-enough h k =
-          let room : noRoomFor graph b ≡ false = rw (gates-count, outputs-count, le-ltb (length (b .gates)) (2 * a) h, le-ltb (length (b .outputs)) o k) in
           let size : a ≡ length (take (2 * a) gs) / 2 = omega (arith, gates-count) in
           ap₂ (λ (m n : ℕ). ReadText.Graph i m n leaving storedIn (take (2 * a) gs) (take o os) b) size (sym outputs-count)
-          ∙ rw (graph-aside, room, readEffect)
+          ∙ sym (reads-graph t b graph graph-aside (room-for graph b (rw gates-count h) (rw outputs-count k)))

@@ -3,8 +3,8 @@
 use mathlib.Core.Path.{_≡_, refl, sym, ap, ap₂, _∙_}
 use mathlib.Core.Bool.{Bool, true, false, cond, _&&_}
 use mathlib.Core.List.{List, [], _∷_, _++_, append-assoc, map, flatMap}
-use Prim.Native.Nat.{ℕ, zero, suc, _+_, _-_, _*_, _≤_, _<_, suc-le-suc}
-use native.Mathlib.Nat.{suc-inj, suc-ne-zero, le-of-suc-le-suc, zero-lt-suc}
+use Prim.Native.Nat.{ℕ, zero, suc, _+_, _*_, _≤_, _<_, suc-le-suc}
+use native.Mathlib.Nat.{add-zero, suc-inj, suc-ne-zero, le-of-suc-le-suc, zero-lt-suc}
 use native.Mathlib.Omega.{arith}
 use borrow.Author.Tests.{ltb-true, le-leb, lt-ltb, eq-eqb}
 use lib.Dec.{ltb, eqb}
@@ -13,6 +13,7 @@ use lib.Seq.{getD-take, getD-drop}
 use Rattle.graph.specs.Lists.{gather}
 use Rattle.graph.specs.Graph.{Net, Graph, graphOf, free, size, last, first, second, IsGate, Lawful}
 use Rattle.graph.proofs.Lists.{and-left, and-right, and-both}
+use Rattle.graph.proofs.WellFormed.{first-at, second-at}
 use Rattle.graph.proofs.Gather.{gather-same, gather-is}
 use Rattle.text.specs.declared.header.Header.{Header}
 use Rattle.text.specs.Line.{line}
@@ -182,18 +183,11 @@ pub graph-read-is : (h : Header) (nss : List (List ℕ)) → length nss ≡ h .i
 unfolding graphRead
 graph-read-is h nss q = ap₂ (graphOf (h .inputs)) (gates-read (h .inputs) (h .outputs) (h .gates) nss q) (outputs-read (h .inputs) (h .outputs) (h .gates) nss q)
 
+-- the words of gate k are its literals
 module _ (net : Net) (k : ℕ) where
-  pub first-at : first net (suc (free net + k)) ≡ getD (net .gates) (2 * k + 0) 0
-  unfolding first
-  first-at = let q : 2 * (suc (free net + k) - suc (free net)) ≡ 2 * k + 0 = omega arith in ap (λ (i : ℕ). getD (net .gates) i 0) q
-
-  pub second-at : second net (suc (free net + k)) ≡ getD (net .gates) (2 * k + 1) 0
-  unfolding second
-  second-at = let q : suc (2 * (suc (free net + k) - suc (free net))) ≡ 2 * k + 1 = omega arith in ap (λ (i : ℕ). getD (net .gates) i 0) q
-
-  words-at : (i : ℕ) → i < 2 → getD (net .gates) (2 * k + i) 0 ≡ getD (first net (suc (free net + k)) ∷ second net (suc (free net + k)) ∷ []) i 0
-  words-at zero h = sym first-at
-  words-at (suc zero) h = sym second-at
+  pub words-at : (i : ℕ) → i < 2 → getD (net .gates) (2 * k + i) 0 ≡ getD (first net (suc (free net + k)) ∷ second net (suc (free net + k)) ∷ []) i 0
+  words-at zero h = rw (add-zero (2 * k)) (sym (first-at net k))
+  words-at (suc zero) h = sym (second-at net k)
   words-at (suc (suc i)) h = absurd (omega arith)
 
 -- either order of the right sides gives the gate's words

@@ -17,6 +17,7 @@ use Rattle.text.specs.States.{skipped}
 use Rattle.text.specs.Reading.{Needed, inputNeeded, outputNeeded, inputsNeeded, outputsNeeded, gatesNeeded, linesNeeded, Lines, right, withLine, readLines, gateWords, graphRead, refuses, yields, readBody}
 use Rattle.text.specs.Places.{Words, words, withWords, readWords, noWords, outputWords}
 use Rattle.text.proofs.Gathered.{length-singles}
+use Rattle.text.proofs.Reading.{body-wrong, body-right}
 
 -- ---- one section
 
@@ -25,10 +26,10 @@ withLines : List (List ℕ) → Lines → Lines
 withLines nss (Lines.wrong r) = Lines.wrong r
 withLines nss (right mss) = right (nss ++ mss)
 
-with-none : (x : Lines) → x ≡ withLines [] x
+with-no-lines : (x : Lines) → x ≡ withLines [] x
 unfolding withLines
-with-none (Lines.wrong r) = refl
-with-none (right nss) = refl
+with-no-lines (Lines.wrong r) = refl
+with-no-lines (right nss) = refl
 
 with-line : (ns : List ℕ) (nss : List (List ℕ)) (x : Lines) → withLine ns (withLines nss x) ≡ withLines (ns ∷ nss) x
 unfolding withLine withLines
@@ -50,7 +51,7 @@ Tells f needs t (words ws u) = Passed f needs t ws u
 module _ (f : List ℕ → List ℕ) where
   tells : (needs : List Needed) (t : List ℕ) → Tells f needs t (readWords f needs t)
   unfolding readWords readLines Tells flatMap withLine withWords
-  tells [] t = record { lines = []; count = refl; words-are = refl; go-on = λ later. with-none (readLines later t) }
+  tells [] t = record { lines = []; count = refl; words-are = refl; go-on = λ later. with-no-lines (readLines later t) }
   tells (x ∷ xs) t = go (lineOf (x .numbers) t) refl (tells xs)
     where
       more : (y : Front (List ℕ)) → ((later : List Needed) → readLines (x ∷ xs ++ later) t ≡ withLine (y .got) (readLines (xs ++ later) (y .rest)))
@@ -95,13 +96,9 @@ module _ (h : Header) (t : List ℕ) where
   unfolding linesNeeded
   lines-are = ap (λ (needs : List Needed). readLines needs t) (append-assoc (inputsNeeded h) (outputsNeeded h) (gatesNeeded h))
 
-  body-wrong : (r : Refusal) → readLines (linesNeeded h) t ≡ Lines.wrong r → readBody h t ≡ refuses r
-  unfolding readBody
-  body-wrong r e = rw (e, readBody)
-
   pub inputs-wrong : {r : Refusal} → readWords noWords (inputsNeeded h) t ≡ Words.wrong r → readBody h t ≡ refuses r
   unfolding Tells
-  inputs-wrong {r} e = body-wrong r (lines-are ∙ (rw e at (tells noWords (inputsNeeded h) t)) (outputsNeeded h ++ gatesNeeded h))
+  inputs-wrong e = body-wrong h t (lines-are ∙ (rw e at (tells noWords (inputsNeeded h) t)) (outputsNeeded h ++ gatesNeeded h))
 
   module _ {vs u : List ℕ} (inputs : readWords noWords (inputsNeeded h) t ≡ words vs u) where
     after-inputs : Passed noWords (inputsNeeded h) t vs u
@@ -110,8 +107,8 @@ module _ (h : Header) (t : List ℕ) where
 
     pub outputs-wrong : {r : Refusal} → readWords outputWords (outputsNeeded h) u ≡ Words.wrong r → readBody h t ≡ refuses r
     unfolding Tells withLines
-    outputs-wrong {r} e =
-        body-wrong r
+    outputs-wrong e =
+        body-wrong h t
         (lines-are
         ∙ after-inputs .go-on (outputsNeeded h ++ gatesNeeded h)
         ∙ ap (withLines (after-inputs .lines)) ((rw e at (tells outputWords (outputsNeeded h) u)) (gatesNeeded h)))
@@ -129,8 +126,8 @@ module _ (h : Header) (t : List ℕ) where
 
       pub gates-wrong : {r : Refusal} → readWords gateWords (gatesNeeded h) v ≡ Words.wrong r → readBody h t ≡ refuses r
       unfolding Tells withLines
-      gates-wrong {r} e =
-          body-wrong r
+      gates-wrong e =
+          body-wrong h t
           (lines-of-two ∙ ap (λ (x : Lines). withLines (after-inputs .lines) (withLines (after-outputs .lines) x)) ((rw e at (tells gateWords (gatesNeeded h) v)) []))
 
       module _ {gs w : List ℕ} (gates : readWords gateWords (gatesNeeded h) v ≡ words gs w) where
@@ -145,14 +142,15 @@ module _ (h : Header) (t : List ℕ) where
 
         pub rest-wrong : skipped w ≡ false → readBody h t ≡ refuses BadLine
         unfolding withLines
-        rest-wrong e = body-wrong BadLine (lines-of-three false e)
+        rest-wrong e = body-wrong h t (lines-of-three false e)
 
         pub all-right : skipped w ≡ true → readBody h t ≡ yields (graphOf (h .inputs) gs os)
-        unfolding withLines readBody
-        all-right e = rw (lines-of-three true e, readBody)
-            (ap yields
+        unfolding withLines
+        all-right e =
+            body-right h t (lines-of-three true e)
+            ∙ ap yields
             (ap (λ (nss : List (List ℕ)). graphRead h (after-inputs .lines ++ (after-outputs .lines ++ nss))) (append-nil (after-gates .lines))
             ∙ graph-of-sections h (after-inputs .lines) (after-outputs .lines) (after-gates .lines)
             (after-inputs .count ∙ length-singles (λ k. inputNeeded (suc k)) (h .inputs))
             (after-outputs .count ∙ length-singles (λ k. outputNeeded h) (h .outputs))
-            ∙ ap₂ (graphOf (h .inputs)) (after-gates .words-are) (after-outputs .words-are)))
+            ∙ ap₂ (graphOf (h .inputs)) (after-gates .words-are) (after-outputs .words-are))

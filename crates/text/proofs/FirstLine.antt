@@ -14,11 +14,11 @@ use Rattle.text.specs.declared.verdict.Verdict.{Verdict}
 use Rattle.text.specs.Number.{front}
 use Rattle.text.specs.Reading.{headerLine, headerRefusals, refuses, readBody, reading}
 use Rattle.text.specs.Places.{headerNumbers, headerStep, verdictIs, Limited}
-use Rattle.text.proofs.Reading.{header-within-iff}
+use Rattle.text.proofs.Reading.{no-first-line, first-line-refused, first-line-passes, header-within-iff}
 
 pub header-missing : (t : List ℕ) (s : HeaderLine) → headerStep t s ≡ headerLine t → s .found ≡ false → reading t ≡ refuses BadHeader
-unfolding reading headerStep
-header-missing t s e f = rw (sym e, f, reading)
+unfolding headerStep
+header-missing t s e f = no-first-line t (rw f at (sym e))
 
 -- a first line that is found, and the verdict on it
 pub record Judged (t : List ℕ) (s : HeaderLine) (v : Verdict) : Type 0 where
@@ -32,16 +32,15 @@ module _ {t : List ℕ} {s : HeaderLine} {v : Verdict} (j : Judged t s v) where
   first-line = rw (j .found) at (sym (j .line))
 
   pub header-refused : {r : Refusal} → v ≡ Verdict.Refused r → reading t ≡ refuses r
-  unfolding reading verdictIs
-  header-refused q = rw (first-line, sym (j .verdict), q, reading)
+  unfolding verdictIs
+  header-refused q = first-line-refused t first-line (rw q at (sym (j .verdict)))
 
   not-refused : v ≡ Verdict.Fine → firstRefusal (headerRefusals t (s .header)) ≡ none
   unfolding verdictIs
   not-refused q = rw q at (sym (j .verdict))
 
   pub header-fine : v ≡ Verdict.Fine → reading t ≡ readBody (s .header) (drop (s .next) t)
-  unfolding reading
-  header-fine q = rw (first-line, not-refused q, reading)
+  header-fine q = first-line-passes t first-line (not-refused q)
 
   pub header-limited : v ≡ Verdict.Fine → Limited (s .header)
   header-limited q =

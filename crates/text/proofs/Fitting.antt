@@ -1,6 +1,6 @@
 -- Lines that fit a header are the lines of a lawful graph: the one that is read from them.
 -- Assumes nothing.
-use mathlib.Core.Path.{_≡_, refl, ap, ap₂, _∙_, subst, subst⁻¹}
+use mathlib.Core.Path.{_≡_, refl, sym, ap, ap₂, _∙_, subst, subst⁻¹}
 use mathlib.Core.Bool.{Bool, true, false}
 use mathlib.Core.List.{List, [], _∷_}
 use Prim.Native.Nat.{ℕ, zero, suc, _+_, _-_, _*_, _≤_, _<_, max, min, zero-le}
@@ -15,7 +15,7 @@ use Rattle.graph.proofs.Gather.{length-gather, getD-gather}
 use Rattle.text.specs.declared.header.Header.{Header}
 use Rattle.text.specs.Reading.{headerOf, Needed, inputNeeded, outputNeeded, gateNeeded, linesNeeded, gateWords, graphRead}
 use Rattle.text.proofs.Gathered.{singles, length-singles, getD-singles, singles-are, by-part, row, length-row, row-first, row-second, row-third, row-is}
-use Rattle.text.proofs.Body.{counts, gateNumbers, linesOf, Kept, noNeed, Fits, lines-fit, graph-read-is, first-at, second-at, gate-sides}
+use Rattle.text.proofs.Body.{counts, gateNumbers, linesOf, Kept, noNeed, Fits, lines-fit, graph-read-is, words-at, gate-sides}
 
 -- ---- one line
 
@@ -112,11 +112,11 @@ module _ (h : Header) (nss : List (List ℕ)) (r : Rows h nss) where
   module _ (k : ℕ) (l : k < h .gates) where
     first-read : first (read .net) (suc (h .inputs + k)) ≡ max (getD (gateAt k) 1 0) (getD (gateAt k) 2 0)
     unfolding gateWords
-    first-read = first-at (read .net) k ∙ getD-gather 2 (λ k. gateWords (gateAt k)) (λ k. refl) (h .gates) k 0 0 l (omega arith)
+    first-read = sym (words-at (read .net) k 0 (omega arith)) ∙ getD-gather 2 (λ k. gateWords (gateAt k)) (λ k. refl) (h .gates) k 0 0 l (omega arith)
 
     second-read : second (read .net) (suc (h .inputs + k)) ≡ min (getD (gateAt k) 1 0) (getD (gateAt k) 2 0)
     unfolding gateWords
-    second-read = second-at (read .net) k ∙ getD-gather 2 (λ k. gateWords (gateAt k)) (λ k. refl) (h .gates) k 1 0 l (omega arith)
+    second-read = sym (words-at (read .net) k 1 (omega arith)) ∙ getD-gather 2 (λ k. gateWords (gateAt k)) (λ k. refl) (h .gates) k 1 0 l (omega arith)
 
     ordered-read : second (read .net) (suc (h .inputs + k)) ≤ first (read .net) (suc (h .inputs + k))
     ordered-read = rw (first-read, second-read) (omega arith)

@@ -1,7 +1,7 @@
--- Reading yields a graph if and only if the text states it, and both are within the limits.
+-- The steps of reading; it yields a graph if and only if the text states it, and both are within the limits.
 -- Assumes nothing.
 use mathlib.Core.Path.{_≡_, refl, sym, ap, ap₂, _∙_, subst}
-use mathlib.Core.Bool.{true, _||_}
+use mathlib.Core.Bool.{true, false, _||_}
 use mathlib.Core.List.{List, [], _∷_, _++_, flatMap}
 use mathlib.Core.Logic.{_↔_, _⊎_, inl, inr}
 use mathlib.Core.Option.{Option, none, some}
@@ -14,21 +14,49 @@ use Rattle.graph.specs.declared.refusal.Refusal.{Refusal}
 use Rattle.graph.specs.declared.refusal.Refusal.the-variants.{BadHeader, BadCount}
 use Rattle.graph.specs.Lists.{gather}
 use Rattle.graph.specs.Refuse.{firstRefusal, numberOf}
-use Rattle.graph.specs.Graph.{Graph, mostInputs, mostOutputs, mostGates}
+use Rattle.graph.specs.Lent.{Buffers, noRoomFor, storedIn, _leaving_}
+use Rattle.graph.specs.Graph.{Graph, size, mostInputs, mostOutputs, mostGates}
 use Rattle.graph.proofs.Rows.{none-silent}
 use Rattle.graph.proofs.Tests.{test-off, denial-off, or-iff, ltb-iff, eqb-iff}
 use Rattle.text.specs.declared.header.Header.{Header}
-use Rattle.text.specs.Number.{Front}
+use Rattle.text.specs.declared.ReadText.{ReadText}
+use Rattle.text.specs.Number.{Front, front}
 use Rattle.text.specs.Line.{line}
 use Rattle.text.specs.States.{aag, textWith}
 use Rattle.text.specs.Reading.{Stated, headerOf, headerLine, mostBytes, headerRefusals, linesNeeded, Lines, wrong, right, readLines, graphRead, Reading, refuses, yields, readBody, reading}
 use Rattle.text.specs.Refusals.{Headed}
+use Rattle.text.specs.Calls.{withRoom, readEffect}
 use Rattle.text.proofs.Cases.{refuses-not-yields, yields-injective}
 use Rattle.text.proofs.Lines.{header-line-iff}
 use Rattle.text.proofs.Gathered.{singles-are}
 use Rattle.text.proofs.Body.{counts, linesOf, text-is, lines-fit, graph-of-lines}
 use Rattle.text.proofs.Fitting.{swapsRead, lines-of-read, read-lawful, read-counts, counts-small, numbers-small}
 use Rattle.text.proofs.Spelling.{Spelled, read-lines-iff}
+
+-- ---- the steps of reading
+
+module _ (t : List ℕ) where
+  pub no-first-line : headerLine t ≡ none → reading t ≡ refuses BadHeader
+  unfolding reading
+  no-first-line e = rw (e, reading)
+
+  module _ {ns rest : List ℕ} (e : headerLine t ≡ some (front ns rest)) where
+    pub first-line-refused : {r : Refusal} → firstRefusal (headerRefusals t (headerOf ns)) ≡ some r → reading t ≡ refuses r
+    unfolding reading
+    first-line-refused f = rw (e, f, reading)
+
+    pub first-line-passes : firstRefusal (headerRefusals t (headerOf ns)) ≡ none → reading t ≡ readBody (headerOf ns) rest
+    unfolding reading
+    first-line-passes f = rw (e, f, reading)
+
+module _ (h : Header) (t : List ℕ) where
+  pub body-wrong : {r : Refusal} → readLines (linesNeeded h) t ≡ wrong r → readBody h t ≡ refuses r
+  unfolding readBody
+  body-wrong f = rw (f, readBody)
+
+  pub body-right : {nss : List (List ℕ)} → readLines (linesNeeded h) t ≡ right nss → readBody h t ≡ yields (graphRead h nss)
+  unfolding readBody
+  body-right f = rw (f, readBody)
 
 -- ---- the first line
 
@@ -180,16 +208,16 @@ module _ (t : List ℕ) (g : Graph) (s : Stated t g) where
   }
 
   stated-reading : reading t ≡ yields g
-  unfolding reading
   stated-reading =
-      rw (
-        header-line-iff t (counts g) body .1 stated-headed,
-        header-within-iff t (headerOf (counts g)) .1 stated-within,
-        read-lines-iff (linesNeeded (headerOf (counts g))) body (linesOf g (s .states .swaps)) .1 stated-spelled,
-        reading,
-        readBody,
-      )
-      (ap yields (graph-of-lines g (s .states .swaps) (s .states .lawful)))
+      first-line-passes t (header-line-iff t (counts g) body .1 stated-headed) (header-within-iff t (headerOf (counts g)) .1 stated-within)
+      ∙ body-right (headerOf (counts g)) body (read-lines-iff (linesNeeded (headerOf (counts g))) body (linesOf g (s .states .swaps)) .1 stated-spelled)
+      ∙ ap yields (graph-of-lines g (s .states .swaps) (s .states .lawful))
 
 pub reading-iff : (t : List ℕ) (g : Graph) → (reading t ≡ yields g) ↔ Stated t g
 reading-iff t g = (reading-stated t g, stated-reading t g)
+
+-- where there is room for the graph that is read, it is stored
+pub reads-graph : (t : List ℕ) (b : Buffers) (g : Graph) → reading t ≡ yields g → noRoomFor g b ≡ false
+    → readEffect t b ≡ ReadText.Graph (g .net .inputs) (size (g .net)) (length (g .outputs)) leaving storedIn (g .net .gates) (g .outputs) b
+unfolding readEffect withRoom
+reads-graph t b g e room = rw (e, readEffect, withRoom, room)

@@ -3,7 +3,7 @@
 use mathlib.Core.Path.{_≡_, refl, sym, ap, subst, _∙_}
 use mathlib.Core.Bool.{Bool, true, false, cond}
 use mathlib.Core.List.{List}
-use mathlib.Core.Logic.{_⊎_, inl, inr, ⊎-elim}
+use mathlib.Core.Logic.{inl, inr, ⊎-elim}
 use mathlib.Core.Option.{Option, none, some, Option·some-injective, Option·none-ne-some, orElse}
 use Prim.Native.Nat.{ℕ, _≤_, _<_, _+_}
 use native.Mathlib.Omega.{arith}
@@ -27,7 +27,7 @@ use Rattle.text.specs.Refusals.{Headed, FirstWrong, ReadGiven, WriteGive
 use Rattle.text.specs.Calls.{withRoom, readEffect, readOutcome, writeRefusals, writeEffect, writtenOutcome}
 use Rattle.text.proofs.Lines.{header-line-iff}
 use Rattle.text.proofs.States.{states-one}
-use Rattle.text.proofs.Reading.{large-iff, latches-iff, count-iff, reading-iff}
+use Rattle.text.proofs.Reading.{no-first-line, first-line-refused, first-line-passes, body-wrong, body-right, large-iff, latches-iff, count-iff, reading-iff}
 use Rattle.text.proofs.Cases.{wrong-injective, wrong-not-right, refusalOf, refusal-is, graph-is}
 use Rattle.text.proofs.FirstWrong.{first-wrong-iff, wrong-number}
 
@@ -98,23 +98,6 @@ module _ (t : List ℕ) (b : Buffers) (ns rest : List ℕ) (e : headerLine t ≡
     complete = λ q d. early-complete (case (d .0)) (d .1);
   }
 
-  -- the steps of reading after the first line
-  reading-refuses : (r : Refusal) → firstRefusal rows ≡ some r → reading t ≡ refuses r
-  unfolding reading
-  reading-refuses r f = rw (e, f, reading)
-
-  reading-body : firstRefusal rows ≡ none → reading t ≡ readBody counts rest
-  unfolding reading
-  reading-body f = rw (e, f, reading)
-
-  body-wrong : (r : Refusal) → readLines needs rest ≡ wrong r → readBody counts rest ≡ refuses r
-  unfolding readBody
-  body-wrong r f = rw (f, readBody)
-
-  body-right : (nss : List (List ℕ)) → readLines needs rest ≡ right nss → readBody counts rest ≡ yields (graphRead counts nss)
-  unfolding readBody
-  body-right nss f = rw (f, readBody)
-
   module _ (c : (q : Refusal) → ¬ Early q) where
     -- where nothing early is given, the first wrong line is the lowest refusal
     line-lowest : (r : Refusal) → FirstWrong needs rest r → Lowest (ReadGiven t b) r
@@ -132,7 +115,7 @@ module _ (t : List ℕ) (b : Buffers) (ns rest : List ℕ) (e : headerLine t ≡
       graph = graphRead counts nss
 
       graph-stated : States t graph
-      graph-stated = (reading-iff t graph .0 (reading-body (first-none header-decides .1 c) ∙ body-right nss f)) .states
+      graph-stated = (reading-iff t graph .0 (first-line-passes t e (first-none header-decides .1 c) ∙ body-right counts rest f)) .states
 
       only-room : {q : Refusal} → ReadGiven t b q → Case q → (q ≡ NoRoom) × NoRoomFor graph b
       unfolding Early
@@ -156,8 +139,8 @@ module _ (t : List ℕ) (b : Buffers) (ns rest : List ℕ) (e : headerLine t ≡
     body-settles = go (readLines needs rest) refl
       where
         go : (x : Lines) → readLines needs rest ≡ x → Settles (ReadGiven t b) (refusalOf (withRoom (readBody counts rest) b))
-        go (wrong r) f = rw (body-wrong r f) (gives (line-lowest r (first-wrong-iff needs rest r .0 f)))
-        go (right nss) f = rw (body-right nss f) (room-settles nss f)
+        go (wrong r) f = rw (body-wrong counts rest f) (gives (line-lowest r (first-wrong-iff needs rest r .0 f)))
+        go (right nss) f = rw (body-right counts rest f) (room-settles nss f)
 
   headed-settles : Settles (ReadGiven t b) (refusalOf (withRoom (reading t) b))
   unfolding withRoom refusalOf orElse Early
@@ -167,14 +150,14 @@ module _ (t : List ℕ) (b : Buffers) (ns rest : List ℕ) (e : headerLine t ≡
     where
       go : (o : Option Refusal) → firstRefusal rows ≡ o
           → refusalOf (withRoom (reading t) b) ≡ orElse (firstRefusal rows) (refusalOf (withRoom (readBody counts rest) b))
-      go none f = rw (reading-body f, f)
-      go (some r) f = rw (reading-refuses r f, f)
+      go none f = rw (first-line-passes t e f, f)
+      go (some r) f = rw (first-line-refused t e f, f)
 
 module _ (t : List ℕ) (b : Buffers) where
   no-header : headerLine t ≡ none → Settles (ReadGiven t b) (refusalOf (withRoom (reading t) b))
-  unfolding reading withRoom refusalOf
+  unfolding withRoom refusalOf
   no-header e =
-      rw (e, reading)
+      rw (no-first-line t e)
       (gives (record {
         holds = ReadGiven.bad-header (λ ns rest h. Option·none-ne-some (front ns rest) (sym e ∙ header-line-iff t ns rest .1 h));
         none-lower = λ q l d. numberOf-not-zero q (omega arith);

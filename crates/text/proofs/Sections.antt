@@ -21,10 +21,10 @@ use Rattle.text.proofs.Gathered.{singles}
 
 -- ---- lines, and then more lines
 
-with-none : (x : Words) → withWords [] x ≡ x
+with-no-words : (x : Words) → withWords [] x ≡ x
 unfolding withWords
-with-none (wrong r) = refl
-with-none (words ws t) = refl
+with-no-words (wrong r) = refl
+with-no-words (words ws t) = refl
 
 -- words before others, in two steps or in one
 with-both : (vs ws : List ℕ) (x : Words) → withWords vs (withWords ws x) ≡ withWords (vs ++ ws) x
@@ -45,7 +45,7 @@ module _ (f : List ℕ → List ℕ) where
 
   read-append : (xs ys : List Needed) (t : List ℕ) → readWords f (xs ++ ys) t ≡ thenMore ys (readWords f xs t)
   unfolding readWords thenMore
-  read-append [] ys t = sym (with-none (readWords f ys t))
+  read-append [] ys t = sym (with-no-words (readWords f ys t))
   read-append (x ∷ xs) ys t = go (lineOf (x .numbers) t) (read-append xs ys)
     where
       by-rule : (b : Bool) (y : Front (List ℕ)) → readWords f (xs ++ ys) (y .rest) ≡ thenMore ys (readWords f xs (y .rest))

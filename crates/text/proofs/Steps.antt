@@ -1,8 +1,8 @@
 -- Steps of reading: a number and the byte after it, and so a line, number by number.
 -- Assumes nothing.
-use mathlib.Core.Path.{_≡_, refl, sym, _∙_}
+use mathlib.Core.Path.{_≡_, refl, sym, ap, _∙_}
 use mathlib.Core.Bool.{Bool, true, false, cond}
-use mathlib.Core.List.{List, [], _∷_}
+use mathlib.Core.List.{List, [], _∷_, _++_, append-assoc}
 use mathlib.Core.Option.{Option, none, some}
 use Prim.Native.Nat.{ℕ, suc}
 use lib.Dec.{eqb}
@@ -12,7 +12,7 @@ use Rattle.text.specs.declared.header.HeaderLine.{HeaderLine}
 use Rattle.text.specs.declared.line.GateLine.{GateLine}
 use Rattle.text.specs.declared.number.NumberStep.{NumberStep}
 use Rattle.text.specs.Number.{Front, front, number}
-use Rattle.text.specs.Line.{_>>=_, lineFeed, separator, after, lineOf}
+use Rattle.text.specs.Line.{_>>=_, space, lineFeed, separator, after, lineOf}
 use Rattle.text.specs.States.{aag}
 use Rattle.text.specs.Reading.{headerLine}
 use Rattle.text.specs.Places.{numberStep, byteStep, gateStep, headerStep, numberThen}
@@ -84,14 +84,44 @@ no-header-found t s e = rw e
 
 -- ---- the first line
 
+-- it starts with the numbers ns, and n more are to be read from place `next` on
+pub record Begun (t ns : List ℕ) (n next : ℕ) : Type 0 where
+  pub line : headerLine t ≡ (lineOf n (drop next t) >>= λ xs. some (front (ns ++ xs .got) (xs .rest)))
+
 module _ (t : List ℕ) (s : ByteStep) (is : byteStep t s ≡ after aag t) where
   pub header-stops : s .found ≡ false → headerLine t ≡ none
   unfolding byteStep headerLine
   header-stops e = rw (sym is, e)
 
-  pub header-goes-on : s .found ≡ true → headerLine t ≡ lineOf 5 (drop (s .next) t)
+  pub header-begins : s .found ≡ true → Begun t [] 5 (s .next)
   unfolding byteStep headerLine
-  header-goes-on e = rw (sym is, e)
+  header-begins e = record { line = rw (sym is, e) (go (lineOf 5 (drop (s .next) t))) }
+    where
+      go : (o : Option (Front (List ℕ))) → o ≡ (o >>= λ xs. some (front (xs .got) (xs .rest)))
+      go none = refl
+      go (some x) = refl
+
+module _ {t ns : List ℕ} (n : ℕ) {next : ℕ} (begun : Begun t ns (suc (suc n)) next) (s : NumberStep) (is : numberStep t s ≡ numberThen space (drop next t)) where
+  pub begun-stops : s .found ≡ false → headerLine t ≡ none
+  unfolding separator
+  begun-stops e = begun .line ∙ rw (line-stops (suc n) t (drop next t) s is e)
+
+  pub begun-goes-on : s .found ≡ true → Begun t (ns ++ (s .value ∷ [])) (suc n) (s .next)
+  unfolding separator
+  begun-goes-on e = record { line = begun .line ∙ rw (line-goes-on (suc n) t (drop next t) s is e) (go (lineOf (suc n) (drop (s .next) t))) }
+    where
+      go : (o : Option (Front (List ℕ)))
+          → (o >>= (λ xs. some (front (s .value ∷ xs .got) (xs .rest))) >>= λ xs. some (front (ns ++ xs .got) (xs .rest)))
+          ≡ (o >>= λ xs. some (front (ns ++ (s .value ∷ []) ++ xs .got) (xs .rest)))
+      go none = refl
+      go (some x) = ap (λ (ms : List ℕ). some (front ms (x .rest))) (sym (append-assoc ns (s .value ∷ []) (x .got)))
+
+pub begun-ends : {t ns : List ℕ} {next : ℕ} → Begun t ns 1 next → (s : NumberStep) → numberStep t s ≡ numberThen lineFeed (drop next t)
+    → headerLine t ≡ cond (s .found) (some (front (ns ++ (s .value ∷ [])) (drop (s .next) t))) none
+begun-ends {t} {ns} {next} begun s is =
+    begun .line
+    ∙ rw (line-ends t (drop next t) s is)
+    (found-bind (s .found) (front (s .value ∷ []) (drop (s .next) t)) (λ xs. some (front (ns ++ xs .got) (xs .rest))))
 
 -- ---- bytes, one after the other
 

@@ -6,18 +6,19 @@ use Prim.Native.Nat.{ℕ, suc, _+_, _≤_, _<_, max, min}
 use native.Mathlib.Numerals.{add-one}
 use native.Mathlib.Omega.{arith}
 use lib.ListN.{length, getD, take, drop, set, length-append}
-use lib.Seq.{length-take-le, take-at, sets-eq, paste, paste-suc}
+use lib.Seq.{length-take-le, take-at, paste, paste-suc}
 use Rattle.graph.specs.Graph.{largerFirst}
 use Rattle.graph.specs.Lent.{written}
 use Rattle.text.specs.Places.{laid}
+use Rattle.text.proofs.Laying.{put-bytes}
 
 -- ---- from a place on
 
 module _ (at : ℕ) (lent : List ℕ) where
   -- a gate's words, stored side by side
   pub laid-gate : (a b x y : ℕ) → at + 1 < length lent → x ≡ max a b → y ≡ min a b → set (set lent at x) (at + 1) y ≡ laid at (largerFirst a b) lent
-  unfolding laid largerFirst
-  laid-gate a b x y h p q = rw (add-one, sym p, sym q) (sets-eq (x ∷ y ∷ []) lent at (omega arith))
+  unfolding largerFirst
+  laid-gate a b x y h p q = rw (add-one, sym p, sym q) (put-bytes at (x ∷ y ∷ []) lent (omega arith) .1)
 
   pub take-laid : (xs : List ℕ) → at ≤ length lent → take (at + length xs) (laid at xs lent) ≡ take at lent ++ xs
   unfolding laid

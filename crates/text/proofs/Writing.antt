@@ -13,6 +13,7 @@ use Rattle.graph.specs.Lists.{gather}
 use Rattle.graph.specs.Graph.{Graph, netOf, graphOf, wellFormed}
 use Rattle.graph.specs.Lent.{short, _leaving_}
 use Rattle.graph.specs.Refuse.{firstRefusal}
+use Rattle.graph.proofs.WellFormed.{first-at, second-at}
 use Rattle.graph.proofs.Gather.{gather-same}
 use Rattle.text.specs.declared.WrittenText.{WrittenText}
 use Rattle.text.specs.Number.{decimal}
@@ -21,7 +22,6 @@ use Rattle.text.specs.Places.{laid}
 use Rattle.text.specs.Calls.{writeRefusals, writeEffect}
 use Rattle.text.specs.States.{aag, inputLines, outputLines, gateLine, gateLines, header, textWith, textOf}
 use Rattle.text.proofs.Laying.{laid-front}
-use Rattle.text.proofs.Body.{first-at, second-at}
 
 -- a number and the byte after it
 abbrev pub numbered : ℕ → ℕ → List ℕ
@@ -70,9 +70,7 @@ gateLineOf i gs k = line (2 * suc (i + k) ∷ getD gs (2 * k) 0 ∷ getD gs (2 *
 
 pub gate-lines : (i : ℕ) (gs : List ℕ) → gateLines (netOf i gs) (λ k. false) ≡ gather (gateLineOf i gs) (length gs / 2)
 unfolding gateLines gateLine
-gate-lines i gs = gather-same _ _ (length gs / 2) (λ k h.
-    let e : 2 * k + 0 ≡ 2 * k = omega arith in
-    rw (first-at (netOf i gs) k, second-at (netOf i gs) k, e))
+gate-lines i gs = gather-same _ _ (length gs / 2) (λ k h. rw (first-at (netOf i gs) k, second-at (netOf i gs) k))
 
 -- ---- the whole text
 
