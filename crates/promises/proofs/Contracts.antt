@@ -18,7 +18,7 @@ use Rattle.text.specs.Refusals.{WriteGiven}
 use Rattle.text.specs.Calls.{readEffect, readOutcome, writeEffect, writtenOutcome}
 use Rattle.text.proofs.Reading.{reading-iff, reads-graph}
 use Rattle.text.proofs.Refusals.{write-answers}
-use Rattle.promises.specs.Promises.{Holds}
+use Rattle.promises.specs.Promises.{Holds, readBack}
 use Rattle.promises.proofs.Stored.{holds-stored}
 use Rattle.promises.proofs.Accepted.{read-leaves-stated, write-leaves-text, write-then-read}
 
@@ -81,6 +81,10 @@ module _ (g : Graph) (lent bytes : List ℕ) (n : ℕ) (written-now : WrittenTex
       let same = ap (λ (e : Effect WrittenText (List ℕ)). length (e .lent)) written-now in
       omega (arith, n-is, simp length-take at stored)
 
+  pub read-back-is : (b : Buffers) → readEffect (take n bytes) b ≡ readBack (writeEffect g lent) b
+  unfolding readBack
+  read-back-is b = ap (λ (e : Effect WrittenText (List ℕ)). readBack e b) written-now
+
   read-back : reading (take n bytes) ≡ yields g
   read-back = rw (n-is, ap (λ (e : Effect WrittenText (List ℕ)). e .lent) written-now) (write-then-read g lent accepted)
 
@@ -88,6 +92,11 @@ module _ (g : Graph) (lent bytes : List ℕ) (n : ℕ) (written-now : WrittenTex
       → length (g .net .gates) ≤ length (b .gates) → length (g .outputs) ≤ length (b .outputs)
       → (r ≡ ReadText.Graph (g .net .inputs) (size (g .net)) (length (g .outputs))) × Holds g b after
   written-and-read-again b after r met = stated-is-read (take n bytes) b after r met g (reading-iff (take n bytes) g .0 read-back)
+
+pub not-read-back : (g : Graph) (lent bytes : List ℕ) (q : Refusal) (b : Buffers) → WrittenText.Refused q leaving bytes ≡ writeEffect g lent
+    → ReadText.Refused q leaving b ≡ readBack (writeEffect g lent) b
+unfolding readBack
+not-read-back g lent bytes q b refused-now = ap (λ (e : Effect WrittenText (List ℕ)). readBack e b) refused-now
 
 -- a well-formed graph with room for its text is not refused
 pub written-with-room : (g : Graph) (lent bytes : List ℕ) (q : Refusal) → WrittenText.Refused q leaving bytes ≡ writeEffect g lent → WellFormed g

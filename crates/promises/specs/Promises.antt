@@ -7,13 +7,15 @@ use mathlib.Core.List.{List}
 use lib.ListN.{length, take, drop}
 use Rattle.graph.specs.declared.refusal.Refusal.{Refusal}
 use Rattle.graph.specs.Refuse.{numberOf, Answers}
-use Rattle.graph.specs.Lent.{Buffers}
+use Rattle.graph.specs.Lent.{Buffers, Effect, _leaving_}
 use Rattle.graph.specs.Literal.{varOf}
 use Rattle.graph.specs.Graph.{Graph, size, first, second, IsGate, WellFormed}
 use Rattle.graph.specs.Evaluate.{outputsUnder}
 use Rattle.graph.specs.Use.{InUse}
 use Rattle.text.specs.declared.ReadText.{ReadText}
+use Rattle.text.specs.declared.WrittenText.{WrittenText}
 use Rattle.text.specs.States.{textOf}
+use Rattle.text.specs.Calls.{readEffect}
 
 -- demand 1: the call's number is the one that the order of refusals selects, and a refusal writes nothing into lent memory
 pub record Settled {L : Type 0} (given : Refusal → Type 0) (number : ℕ) (lent-before lent-after : L) : Type 0 where
@@ -46,6 +48,11 @@ pub record Holds (h : Graph) (before after : Buffers) : Type 0 where
   pub outputs-stored : Stored (h .outputs) (before .outputs) (after .outputs)
 
 -- ---- calls in a row
+
+-- what was written is read into lent lists; where writing was refused, that is the answer
+unfoldable pub readBack : Effect WrittenText (List ℕ) → Buffers → Effect ReadText Buffers
+unfolding readEffect
+readBack w b = elim (w .answer) [ WrittenText.Bytes n ↦ readEffect (take n (w .lent)) b | WrittenText.Refused r ↦ ReadText.Refused r leaving b ]
 
 -- g was written into lent bytes and what was written read into lent lists: a well-formed g for which there is room comes back
 abbrev pub WrittenAgain : Graph → List ℕ → Buffers → ReadText → Buffers → Type 0

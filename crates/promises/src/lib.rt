@@ -1,7 +1,10 @@
-// Promises about calls in a row: a function here only makes the calls, and its contract is the promise.
+// Promises about calls in a row: a function here only makes the calls. Its last clause is the promise; those before it fix the answers and
+// every lent word, as the calls' own contracts do.
+ghost use mathlib.Core.Path.{_≡_};
 ghost use Rattle.graph.specs.Graph.{graphOf};
-ghost use Rattle.graph.specs.Lent.{buffersOf};
-ghost use Rattle.promises.specs.Promises.{WrittenAgain, SameAgain};
+ghost use Rattle.graph.specs.Lent.{buffersOf, _leaving_};
+ghost use Rattle.text.specs.Calls.{readEffect, writeEffect};
+ghost use Rattle.promises.specs.Promises.{readBack, WrittenAgain, SameAgain};
 use text::ReadText;
 use text::WrittenText;
 
@@ -14,6 +17,9 @@ pub fn write_then_read(
     words: &mut [u32],
     results: &mut [u32],
 ) -> ReadText
+    ensures { λ r. ⌜ r leaving buffersOf (now (words .exit)) (now (results .exit))
+        ≡ readBack (writeEffect (graphOf inputs (now (gates .entry)) (now (outputs .entry))) (now (bytes .entry))) (buffersOf (now (words .entry)) (now (results .entry))) ⌝ }
+    ensures { λ _. ⌜ now (bytes .exit) ≡ (writeEffect (graphOf inputs (now (gates .entry)) (now (outputs .entry))) (now (bytes .entry))) .lent ⌝ }
     ensures { λ r. ⌜ WrittenAgain (graphOf inputs (now (gates .entry)) (now (outputs .entry))) (now (bytes .entry))
         (buffersOf (now (words .entry)) (now (results .entry))) r (buffersOf (now (words .exit)) (now (results .exit))) ⌝ }
 {
@@ -37,6 +43,8 @@ pub fn read_twice(
     words: &mut [u32],
     results: &mut [u32],
 ) -> TwoAnswers
+    ensures { λ r. ⌜ r .first leaving buffersOf (now (gates .exit)) (now (outputs .exit)) ≡ readEffect (now (text .entry)) (buffersOf (now (gates .entry)) (now (outputs .entry))) ⌝ }
+    ensures { λ r. ⌜ r .second leaving buffersOf (now (words .exit)) (now (results .exit)) ≡ readEffect (now (text .entry)) (buffersOf (now (words .entry)) (now (results .entry))) ⌝ }
     ensures { λ r. ⌜ SameAgain (buffersOf (now (gates .entry)) (now (outputs .entry))) (r .first) (buffersOf (now (gates .exit)) (now (outputs .exit)))
         (buffersOf (now (words .entry)) (now (results .entry))) (r .second) (buffersOf (now (words .exit)) (now (results .exit))) ⌝ }
 {

@@ -11,7 +11,7 @@ pub struct ByteStep {
     pub next: usize,
 }
 
-pub fn byte_at(text: &[u8], at: usize, byte: u8) -> ByteStep
+pub(crate) fn byte_at(text: &[u8], at: usize, byte: u8) -> ByteStep
     ensures { λ r. ⌜ byteStep (now (text .entry)) r ≡ after (byte ∷ []) (drop at (now (text .entry))) ⌝ }
 {
     if at < text.len() {
@@ -28,13 +28,13 @@ pub fn byte_at(text: &[u8], at: usize, byte: u8) -> ByteStep
     }
 }
 
-pub fn space_at(text: &[u8], at: usize) -> ByteStep
+pub(crate) fn space_at(text: &[u8], at: usize) -> ByteStep
     ensures { λ r. ⌜ byteStep (now (text .entry)) r ≡ after (space ∷ []) (drop at (now (text .entry))) ⌝ }
 {
     byte_at(text, at, b' ')
 }
 
-pub fn line_end_at(text: &[u8], at: usize) -> ByteStep
+pub(crate) fn line_end_at(text: &[u8], at: usize) -> ByteStep
     ensures { λ r. ⌜ byteStep (now (text .entry)) r ≡ after (lineFeed ∷ []) (drop at (now (text .entry))) ⌝ }
 {
     byte_at(text, at, b'\n')

@@ -39,7 +39,7 @@ fn variables_length(highest: u32) -> usize
 }
 
 // The bytes of a graph's whole text.
-pub fn text_length(inputs: u32, gates: &[u32], outputs: &[u32]) -> usize
+pub(crate) fn text_length(inputs: u32, gates: &[u32], outputs: &[u32]) -> usize
     requires { ⌜ wellFormed (graphOf inputs (now gates) (now outputs)) ≡ true ⌝ }
     ensures { λ r. ⌜ r ≡ length (textOf (graphOf inputs (now (gates .entry)) (now (outputs .entry)))) ⌝ }
 {

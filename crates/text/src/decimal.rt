@@ -6,7 +6,7 @@ ghost use Rattle.text.specs.Number.{decimal};
 ghost use Rattle.text.specs.Places.{laid};
 
 // How many digits a number has. No division: they cost more than the comparisons.
-pub fn decimal_length(number: u32) -> usize
+pub(crate) fn decimal_length(number: u32) -> usize
     ensures { λ r. ⌜ r ≡ length (decimal number) ⌝ }
 {
     if number < 10 {
@@ -40,7 +40,7 @@ pub fn decimal_length(number: u32) -> usize
 }
 
 // Writes a number from a place on, the last digit first, and answers the place after it.
-pub fn put_decimal(bytes: &mut [u8], at: usize, number: u32) -> usize
+pub(crate) fn put_decimal(bytes: &mut [u8], at: usize, number: u32) -> usize
     requires { ⌜ at + length (decimal number) ≤ length (now bytes) ⌝ }
     ensures { λ r. ⌜ r ≡ at + length (decimal number) ⌝ }
     ensures { λ _. ⌜ now (bytes .exit) ≡ laid at (decimal number) (now (bytes .entry)) ⌝ }

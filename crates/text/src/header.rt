@@ -72,7 +72,7 @@ fn aag_at_front(text: &[u8]) -> ByteStep
     space_from(text, aag.next)
 }
 
-pub fn header_line(text: &[u8]) -> HeaderLine
+pub(crate) fn header_line(text: &[u8]) -> HeaderLine
     ensures { λ r. ⌜ headerStep (now (text .entry)) r ≡ headerLine (now (text .entry)) ⌝ }
 {
     let start = aag_at_front(text);
@@ -110,7 +110,7 @@ pub fn header_line(text: &[u8]) -> HeaderLine
 }
 
 // What the counts say of the text.
-pub fn header_verdict(text: &[u8], header: Header) -> Verdict
+pub(crate) fn header_verdict(text: &[u8], header: Header) -> Verdict
     ensures { λ r. ⌜ verdictIs r ≡ firstRefusal (headerRefusals (now (text .entry)) header) ⌝ }
 {
     if MOST_INPUTS < header.inputs {

@@ -11,7 +11,7 @@ use crate::reader::space_from;
 use graph::Lit;
 
 // A number and the space after it.
-pub fn number_and_space(text: &[u8], at: usize) -> NumberStep
+pub(crate) fn number_and_space(text: &[u8], at: usize) -> NumberStep
     ensures { λ r. ⌜ numberStep (now (text .entry)) r ≡ numberThen space (drop at (now (text .entry))) ⌝ }
 {
     let number = number_from(text, at);
@@ -27,7 +27,7 @@ pub fn number_and_space(text: &[u8], at: usize) -> NumberStep
 }
 
 // A number and the line feed after it.
-pub fn number_and_end(text: &[u8], at: usize) -> NumberStep
+pub(crate) fn number_and_end(text: &[u8], at: usize) -> NumberStep
     ensures { λ r. ⌜ numberStep (now (text .entry)) r ≡ numberThen lineFeed (drop at (now (text .entry))) ⌝ }
 {
     let number = number_from(text, at);
@@ -49,7 +49,7 @@ pub struct LiteralLine {
     pub next: usize,
 }
 
-pub fn literal_line(text: &[u8], at: usize) -> LiteralLine
+pub(crate) fn literal_line(text: &[u8], at: usize) -> LiteralLine
     ensures { λ r. ⌜ literalStep (now (text .entry)) r ≡ lineOf 1 (drop at (now (text .entry))) ⌝ }
 {
     let number = number_and_end(text, at);
@@ -69,7 +69,7 @@ pub struct GateLine {
     pub next: usize,
 }
 
-pub fn gate_line(text: &[u8], at: usize) -> GateLine
+pub(crate) fn gate_line(text: &[u8], at: usize) -> GateLine
     ensures { λ r. ⌜ gateStep (now (text .entry)) r ≡ lineOf 3 (drop at (now (text .entry))) ⌝ }
 {
     let left = number_and_space(text, at);

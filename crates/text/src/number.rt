@@ -59,7 +59,7 @@ fn digits_at(text: &[u8], at: usize) -> NumberStep
 }
 
 // The number at a place. A zero stands alone.
-pub fn number_at(text: &[u8], at: usize) -> NumberStep
+pub(crate) fn number_at(text: &[u8], at: usize) -> NumberStep
     ensures { λ r. ⌜ numberStep (now (text .entry)) r ≡ number (drop at (now (text .entry))) ⌝ }
 {
     if digit_at(text, at) == 0 {

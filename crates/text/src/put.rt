@@ -23,7 +23,7 @@ fn put_number(bytes: &mut [u8], at: usize, number: u32, separator: u8) -> usize
 }
 
 // The line of one literal.
-pub fn put_literal(bytes: &mut [u8], at: usize, literal: Lit) -> usize
+pub(crate) fn put_literal(bytes: &mut [u8], at: usize, literal: Lit) -> usize
     requires { ⌜ at + length (line (literal .0 ∷ [])) ≤ length (now bytes) ⌝ }
     ensures { λ r. ⌜ r ≡ at + length (line (literal .0 ∷ [])) ⌝ }
     ensures { λ _. ⌜ now (bytes .exit) ≡ laid at (line (literal .0 ∷ [])) (now (bytes .entry)) ⌝ }
@@ -32,7 +32,7 @@ pub fn put_literal(bytes: &mut [u8], at: usize, literal: Lit) -> usize
 }
 
 // The line of a gate.
-pub fn put_gate(bytes: &mut [u8], at: usize, left: Lit, one: Lit, other: Lit) -> usize
+pub(crate) fn put_gate(bytes: &mut [u8], at: usize, left: Lit, one: Lit, other: Lit) -> usize
     requires { ⌜ at + length (line (left .0 ∷ one .0 ∷ other .0 ∷ [])) ≤ length (now bytes) ⌝ }
     ensures { λ r. ⌜ r ≡ at + length (line (left .0 ∷ one .0 ∷ other .0 ∷ [])) ⌝ }
     ensures { λ _. ⌜ now (bytes .exit) ≡ laid at (line (left .0 ∷ one .0 ∷ other .0 ∷ [])) (now (bytes .entry)) ⌝ }
@@ -43,7 +43,7 @@ pub fn put_gate(bytes: &mut [u8], at: usize, left: Lit, one: Lit, other: Lit) ->
 }
 
 // The first line of a graph with these counts.
-pub fn put_header(bytes: &mut [u8], inputs: u32, outputs: u32, gates: u32) -> usize
+pub(crate) fn put_header(bytes: &mut [u8], inputs: u32, outputs: u32, gates: u32) -> usize
     requires { ⌜ (inputs ≤ mostInputs) × (gates ≤ mostGates) ⌝ }
     requires { ⌜ length (aag ++ line ((inputs + gates) ∷ inputs ∷ 0 ∷ outputs ∷ gates ∷ [])) ≤ length (now bytes) ⌝ }
     ensures { λ r. ⌜ r ≡ length (aag ++ line ((inputs + gates) ∷ inputs ∷ 0 ∷ outputs ∷ gates ∷ [])) ⌝ }

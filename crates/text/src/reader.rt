@@ -18,38 +18,38 @@ pub struct TextReader<'a> {
 }
 
 impl<'a> TextReader<'a> {
-    pub fn number(self) -> NumberStep
+    pub(crate) fn number(self) -> NumberStep
         ensures { λ r. ⌜ numberStep (now (self .entry .text)) r ≡ number (drop (self .entry .at) (now (self .entry .text))) ⌝ }
     {
         number_at(self.text, self.at)
     }
 
-    pub fn space(self) -> ByteStep
+    pub(crate) fn space(self) -> ByteStep
         ensures { λ r. ⌜ byteStep (now (self .entry .text)) r ≡ after (space ∷ []) (drop (self .entry .at) (now (self .entry .text))) ⌝ }
     {
         space_at(self.text, self.at)
     }
 
-    pub fn line_end(self) -> ByteStep
+    pub(crate) fn line_end(self) -> ByteStep
         ensures { λ r. ⌜ byteStep (now (self .entry .text)) r ≡ after (lineFeed ∷ []) (drop (self .entry .at) (now (self .entry .text))) ⌝ }
     {
         line_end_at(self.text, self.at)
     }
 }
 
-pub fn number_from(text: &[u8], at: usize) -> NumberStep
+pub(crate) fn number_from(text: &[u8], at: usize) -> NumberStep
     ensures { λ r. ⌜ numberStep (now (text .entry)) r ≡ number (drop at (now (text .entry))) ⌝ }
 {
     TextReader { text, at }.number()
 }
 
-pub fn space_from(text: &[u8], at: usize) -> ByteStep
+pub(crate) fn space_from(text: &[u8], at: usize) -> ByteStep
     ensures { λ r. ⌜ byteStep (now (text .entry)) r ≡ after (space ∷ []) (drop at (now (text .entry))) ⌝ }
 {
     TextReader { text, at }.space()
 }
 
-pub fn line_end_from(text: &[u8], at: usize) -> ByteStep
+pub(crate) fn line_end_from(text: &[u8], at: usize) -> ByteStep
     ensures { λ r. ⌜ byteStep (now (text .entry)) r ≡ after (lineFeed ∷ []) (drop at (now (text .entry))) ⌝ }
 {
     TextReader { text, at }.line_end()

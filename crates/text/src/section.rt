@@ -25,7 +25,7 @@ pub enum Section {
 }
 
 // Input line k is 2k.
-pub fn read_inputs(text: &[u8], at: usize, header: Header) -> Section
+pub(crate) fn read_inputs(text: &[u8], at: usize, header: Header) -> Section
     requires { ⌜ Limited header ⌝ }
     ensures { λ r. ⌜ sectionWords (now (text .entry)) [] r ≡ readWords noWords (inputsNeeded header) (drop at (now (text .entry))) ⌝ }
 {
@@ -45,7 +45,7 @@ pub fn read_inputs(text: &[u8], at: usize, header: Header) -> Section
 }
 
 // An output is any literal up to 2M + 1.
-pub fn read_outputs(text: &[u8], at: usize, header: Header, words: &mut [u32]) -> Section
+pub(crate) fn read_outputs(text: &[u8], at: usize, header: Header, words: &mut [u32]) -> Section
     requires { ⌜ Limited header ⌝ }
     requires { ⌜ header .outputs ≤ length (now words) ⌝ }
     ensures { λ r. ⌜ sectionWords (now (text .entry)) (take (header .outputs) (now (words .exit))) r ≡ readWords outputWords (outputsNeeded header) (drop at (now (text .entry))) ⌝ }
@@ -98,7 +98,7 @@ fn store_gate(words: &mut [u32], at: usize, one: Lit, other: Lit)
 }
 
 // Gate line k has left side 2(I + k), and its right sides in either order.
-pub fn read_gates(text: &[u8], at: usize, header: Header, words: &mut [u32]) -> Section
+pub(crate) fn read_gates(text: &[u8], at: usize, header: Header, words: &mut [u32]) -> Section
     requires { ⌜ Limited header ⌝ }
     requires { ⌜ 2 * header .gates ≤ length (now words) ⌝ }
     ensures { λ r. ⌜ sectionWords (now (text .entry)) (take (2 * header .gates) (now (words .exit))) r ≡ readWords gateWords (gatesNeeded header) (drop at (now (text .entry))) ⌝ }
@@ -121,7 +121,7 @@ pub fn read_gates(text: &[u8], at: usize, header: Header, words: &mut [u32]) -> 
 }
 
 // That the rest is empty, or starts with `i`, `o` or `c`.
-pub fn rest_is_skipped(text: &[u8], at: usize) -> bool
+pub(crate) fn rest_is_skipped(text: &[u8], at: usize) -> bool
     ensures { λ r. ⌜ r ≡ skipped (drop at (now (text .entry))) ⌝ }
 {
     if text.len() <= at {

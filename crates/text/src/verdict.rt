@@ -9,7 +9,7 @@ pub enum Verdict {
 }
 
 // A misshapen line is a bad line, one that breaks its rule a bad literal.
-pub fn line_verdict(found: bool, kept: bool) -> Verdict
+pub(crate) fn line_verdict(found: bool, kept: bool) -> Verdict
     ensures { λ r. ⌜ verdictIs r ≡ lineRefusal found kept ⌝ }
 {
     if !found {

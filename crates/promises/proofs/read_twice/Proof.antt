@@ -26,9 +26,10 @@ same-length-4 : tie.Need-same-length-4
 same-length-4 c = search needs
 
 returns : tie.Need-returns
-returns c same =
+returns c =
     let first-read = c .before .before .before .before .before .before .before .before .before .before .before .read .ensures in
-    read-has-one-result _ _ _ _ _ _ (first-read ∙ ap (readEffect _) same) (c .before .before .before .before .read2 .ensures)
+    let second-read = c .before .before .before .before .read2 .ensures in
+    (first-read, (second-read, λ same. read-has-one-result _ _ _ _ _ _ (first-read ∙ ap (readEffect _) same) second-read))
 
 pub read-twice-spec : {M : Type 1} → statement M
 read-twice-spec =

@@ -1,9 +1,14 @@
 -- `promises::write_then_read` meets its contract: what was written states the graph, and just what a text states is read.
 -- Assumes nothing.
+use mathlib.Core.Path.{ap, _∙_}
+use mathlib.Core.List.{List}
+use Prim.Native.Nat.{ℕ}
 use native.Mathlib.Omega.{arith}
 use lib.ListN.{length-take}
 use borrow.Author.Needs.{needs}
-use Rattle.promises.proofs.Contracts.{written-is-within, written-and-read-again, written-with-room}
+use Rattle.graph.specs.Lent.{Effect}
+use Rattle.text.specs.declared.WrittenText.{WrittenText}
+use Rattle.promises.proofs.Contracts.{written-is-within, read-back-is, not-read-back, written-and-read-again, written-with-room}
 use Rattle.promises.proofs.write_then_read.Statement.{statement}
 use Rattle.promises.proofs.write_then_read.Tie as tie
 
@@ -34,9 +39,10 @@ same-length : tie.Need-same-length
 same-length c = search needs
 
 returns : tie.Need-returns
-returns c ok fits =
+returns c =
     let q = c .before .refusal .given .1 in
-    absurd (written-with-room _ _ _ _ (rw q at (c .before .before .before .before .before .write .ensures)) ok fits)
+    let refused-now = rw q at (c .before .before .before .before .before .write .ensures) in
+    (not-read-back _ _ _ _ _ refused-now, (ap (λ (e : Effect WrittenText (List ℕ)). e .lent) refused-now, λ ok fits. absurd (written-with-room _ _ _ _ refused-now ok fits)))
 
 same-length-2 : tie.Need-same-length-2
 same-length-2 c = search needs
@@ -48,10 +54,17 @@ same-length-4 : tie.Need-same-length-4
 same-length-4 c = search needs
 
 returns-2 : tie.Need-returns-2
-returns-2 c ok fits =
+returns-2 c =
     let p = c .before .before .before .before .before .before .before .before .before in
     let q = p .length .given .1 in
-    written-and-read-again _ _ _ _ (rw q at (p .before .before .before .before .write .ensures)) _ _ _ (c .before .before .before .before .read .ensures)
+    let written-now = rw q at (p .before .before .before .before .write .ensures) in
+    let read-now = c .before .before .before .before .read .ensures in (
+      read-now ∙ read-back-is _ _ _ _ written-now _,
+      (
+        ap (λ (e : Effect WrittenText (List ℕ)). e .lent) written-now,
+        λ ok fits. written-and-read-again _ _ _ _ written-now _ _ _ read-now,
+      ),
+    )
 
 pub write-then-read-spec : {M : Type 1} → statement M
 write-then-read-spec =
