@@ -5,7 +5,7 @@ use Prim.Native.String.{String}
 use mathlib.Core.List.{List, [], _∷_, _++_}
 use lib.ListN.{replicate}
 use Rattle.graph.specs.Graph.{graphOf}
-use Rattle.window.specs.Leaves.{leavesOf}
+use Rattle.window.specs.Leaves.{variables, leavesOf}
 use Rattle.replace.specs.Proposal.{literal}
 use Rattle.promises.specs.Calls.{Row, _gives_, buffers, readCall, writeCall, evaluateCall, pickCall, tableCall, applyCall}
 use Rattle.promises.specs.Bench.{bytes, e1}
@@ -48,7 +48,7 @@ textEdges =
     ∷ []
 
 unfoldable pub graphEdges : List Row
-unfolding e1 leavesOf writeCall evaluateCall pickCall tableCall applyCall
+unfolding e1 variables leavesOf writeCall evaluateCall pickCall tableCall applyCall
 graphEdges =
     -- a lent graph with 65 inputs or outputs is not well formed; with 64 only room lacks
     (writeCall (graphOf 65 [] []) 0 ++ writeCall (graphOf 64 [] []) 0) gives (7 ∷ 16 ∷ [])
@@ -60,7 +60,7 @@ graphEdges =
     ∷ tableCall (graphOf 7 (4 ∷ 2 ∷ []) (16 ∷ [])) 8 (leavesOf (1 ∷ 2 ∷ 3 ∷ 4 ∷ 5 ∷ 6 ∷ 7 ∷ [])) gives (10 ∷ [])
     -- variable 0 as a leaf, the root itself, and an unused place that is not 0
     ∷ (tableCall e1 4 (leavesOf (0 ∷ 1 ∷ [])) ++ tableCall e1 4 (leavesOf (1 ∷ 4 ∷ []))) gives (10 ∷ 10 ∷ [])
-    ∷ tableCall e1 4 (record { count = 1; places = 1 ∷ 2 ∷ 0 ∷ 0 ∷ 0 ∷ 0 ∷ [] }) gives (10 ∷ [])
+    ∷ tableCall e1 4 (record { count = 1; places = variables (1 ∷ 2 ∷ 0 ∷ 0 ∷ 0 ∷ 0 ∷ []) }) gives (10 ∷ [])
     -- evaluating: the first value is input 1's
     ∷ (evaluateCall (graphOf 2 (5 ∷ 2 ∷ []) (6 ∷ 7 ∷ [])) (1 ∷ 0 ∷ []) 3 ++ evaluateCall (graphOf 2 (5 ∷ 2 ∷ []) (6 ∷ 7 ∷ [])) (0 ∷ 1 ∷ []) 3)
     gives (0 ∷ 2 ∷ 1 ∷ 0 ∷ 99 ∷ 0 ∷ 2 ∷ 0 ∷ 1 ∷ 99 ∷ [])

@@ -61,10 +61,10 @@ module _ (g : Graph) (law : Lawful g) (limit root : ℕ) (gate : IsGate (g .net)
   chosen-gate : {xs ys : List ℕ} → CutUnder net root xs → (c : Chosen limit net xs ys) → IsGate net (c .leaf)
   chosen-gate u c = record { above = c .is-expandable .is-gate; within = omega (arith, u .below-root (c .leaf) (c .is-expandable .is-leaf)) }
 
-  chosen-cuts : (xs ys : List ℕ) → CutUnder net root xs → Chosen limit net xs ys → CutUnder net root ys
+  pub chosen-cuts : (xs ys : List ℕ) → CutUnder net root xs → Chosen limit net xs ys → CutUnder net root ys
   chosen-cuts xs ys u c = rw (c .expanded) at (expand-cuts g law root xs (c .leaf) (chosen-gate u c) (c .is-expandable .is-leaf) u)
 
-  chosen-weighs : (xs ys : List ℕ) → CutUnder net root xs → Chosen limit net xs ys → weight ys < weight xs
+  pub chosen-weighs : (xs ys : List ℕ) → CutUnder net root xs → Chosen limit net xs ys → weight ys < weight xs
   chosen-weighs xs ys u c = rw (c .expanded) at (expand-weighs g law xs (c .leaf) (chosen-gate u c) (c .is-expandable .is-leaf))
 
   -- each step makes the set lighter, so as many steps as the weight are enough

@@ -4,10 +4,12 @@ pub mod Patterns
 pub mod Places
 pub mod Coverage
 pub mod LeafSets
+pub mod Growing
 pub mod Sets
 pub mod Weight
 pub mod Expansions
 pub mod Smallest
 pub mod Choice
 pub mod LeafRule
+pub mod Taking
 pub mod Refusals

@@ -13,7 +13,7 @@ use Rattle.graph.specs.Graph.{Net}
 use Rattle.graph.specs.Sweep.{bools}
 use Rattle.graph.proofs.Sweep.{values-same}
 use Rattle.window.specs.declared.Leaves.{Leaves}
-use Rattle.window.specs.Leaves.{leafLimit, leafList, placeFrom, leafPlace}
+use Rattle.window.specs.Leaves.{leafLimit, numbers, leafList, placeFrom, leafPlace}
 use Rattle.window.specs.Local.{leafOwn, localUpTo, localAt}
 use Rattle.window.specs.Table.{bit, pack, table}
 use Rattle.window.proofs.Bits.{pack-lt, bit-pack}
@@ -34,7 +34,7 @@ module _ {A : Type 0} (a a′ : ℕ → A) where
 
   own-same : (w : Leaves) → w .count ≤ leafLimit → ((k : ℕ) → k < leafLimit → a k ≡ a′ k) → (v : ℕ) → leafOwn w a v ≡ leafOwn w a′ v
   unfolding leafOwn leafPlace
-  own-same w c h v = place-same (leafList w) 0 v (λ k l. h k (omega (arith, length-take (w .count) (w .places))))
+  own-same w c h v = place-same (leafList w) 0 v (λ k l. h k (omega (arith, length-take (w .count) (numbers (w .places)))))
 
 -- an assignment of the leaves gives what its pattern gives
 pub locals-by-pattern : (net : Net) (w : Leaves) → w .count ≤ leafLimit → (a : ℕ → Bool) (n : ℕ)

@@ -13,7 +13,7 @@ use Rattle.window.specs.declared.Leaves.{Leaves}
 use Rattle.window.specs.declared.Verdict.{Verdict}
 use Rattle.window.specs.declared.Picked.{Picked}
 use Rattle.window.specs.declared.RootTable.{RootTable}
-use Rattle.window.specs.Leaves.{leavesOf, wellSet, WellSet}
+use Rattle.window.specs.Leaves.{numbers, leavesOf, wellSet, WellSet}
 use Rattle.window.specs.Local.{covered, Covered}
 use Rattle.window.specs.Table.{table}
 use Rattle.window.specs.LeafRule.{picked}
@@ -39,7 +39,8 @@ pickAnswer g root =
     ]
 
 unfoldable pub verdictOutcome : Verdict → Leaves → Outcome
-verdictOutcome Verdict.Accepted w = accepted (w .count ∷ w .places)
+unfolding numbers
+verdictOutcome Verdict.Accepted w = accepted (w .count ∷ numbers (w .places))
 verdictOutcome (Verdict.Refused r) w = refused r
 
 unfoldable pub pickOutcome : Picked → Outcome

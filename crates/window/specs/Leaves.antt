@@ -3,25 +3,33 @@
 use Prim.Native.Nat.{ℕ, suc, _≤_, _<_}
 use mathlib.Core.Path.{_≡_}
 use mathlib.Core.Bool.{Bool, true, cond, _&&_}
-use mathlib.Core.List.{List, [], _∷_}
+use mathlib.Core.List.{List, [], _∷_, map}
 use mathlib.Core.Option.{Option, none, some}
 use lib.Dec.{leb, ltb, eqb}
 use lib.ListN.{length, getD, take, drop}
 use Rattle.graph.specs.Lists.{filled, every, all}
+use Rattle.graph.specs.declared.lit.Var.{Var}
 use Rattle.window.specs.declared.Leaves.{Leaves}
 
 -- a leaf set has six places
 abbrev pub leafLimit : ℕ
 leafLimit = 6
 
+-- the numbers of some variables, and the variables of some numbers
+unfoldable pub numbers : List Var → List ℕ
+numbers vs = map (λ (v : Var). v .0) vs
+
+unfoldable pub variables : List ℕ → List Var
+variables xs = map (λ (x : ℕ). record { 0 = x }) xs
+
 -- the leaves themselves
 abbrev pub leafList : Leaves → List ℕ
-leafList w = take (w .count) (w .places)
+leafList w = take (w .count) (numbers (w .places))
 
 -- the leaf set that has these leaves: unused places are 0
 unfoldable pub leavesOf : List ℕ → Leaves
-unfolding filled
-leavesOf xs = record { count = length xs; places = filled leafLimit xs }
+unfolding filled variables
+leavesOf xs = record { count = length xs; places = variables (filled leafLimit xs) }
 
 -- each number is above the one before it, and the first above x
 unfoldable pub ascendsFrom : ℕ → List ℕ → Bool
@@ -30,12 +38,12 @@ ascendsFrom x (y ∷ ys) = ltb x y && ascendsFrom y ys
 
 -- at most six; ascending without repeats and none 0; each below the root; unused places 0
 unfoldable pub leafRules : ℕ → Leaves → List Bool
-unfolding ascendsFrom all
+unfolding ascendsFrom all numbers
 leafRules root w =
     leb (w .count) leafLimit
     ∷ ascendsFrom 0 (leafList w)
     ∷ all (λ v. ltb v root) (leafList w)
-    ∷ all (λ x. eqb x 0) (drop (w .count) (w .places))
+    ∷ all (λ x. eqb x 0) (drop (w .count) (numbers (w .places)))
     ∷ []
 
 unfoldable pub wellSet : ℕ → Leaves → Bool
@@ -48,7 +56,7 @@ pub record WellSet (root : ℕ) (w : Leaves) : Type 0 where
   pub at-least-one : (j : ℕ) → j < length (leafList w) → 0 < getD (leafList w) j 0
   pub ascending : (i j : ℕ) → i < j → j < length (leafList w) → getD (leafList w) i 0 < getD (leafList w) j 0
   pub below-root : (j : ℕ) → j < length (leafList w) → getD (leafList w) j 0 < root
-  pub unused-zero : (j : ℕ) → w .count ≤ j → getD (w .places) j 0 ≡ 0
+  pub unused-zero : (j : ℕ) → w .count ≤ j → getD (numbers (w .places)) j 0 ≡ 0
 
 -- the place at which v stands in the list, where the list starts at place j
 unfoldable pub placeFrom : ℕ → List ℕ → ℕ → Option ℕ

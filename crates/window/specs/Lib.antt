@@ -3,3 +3,4 @@ pub mod Local
 pub mod Table
 pub mod LeafRule
 pub mod Calls
+pub mod Growing
