@@ -49,7 +49,7 @@ unfolding markEach
 each-length [] ms = refl
 each-length (l ∷ ls) ms = each-length ls (set ms (varOf l) true) ∙ length-set ms (varOf l) true
 
-each-keeps : (ls : List ℕ) (ms : List Bool) (v : ℕ) → Marked ms v → Marked (markEach ls ms) v
+pub each-keeps : (ls : List ℕ) (ms : List Bool) (v : ℕ) → Marked ms v → Marked (markEach ls ms) v
 unfolding markEach
 each-keeps [] ms v m = m
 each-keeps (l ∷ ls) ms v m = each-keeps ls (set ms (varOf l) true) v (set-keeps ms (varOf l) v m)

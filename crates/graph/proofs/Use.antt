@@ -58,7 +58,7 @@ module _ (g : Graph) where
   unfolding marks Sound
   marked-reached v m = down-sound (size (g .net)) _ (le-refl _) (outputs-sound (suc (last (g .net)))) v m
 
-  down-keeps : (k : ℕ) (ms : List Bool) (u : ℕ) → Marked ms u → Marked (markDown (g .net) k ms) u
+  pub down-keeps : (k : ℕ) (ms : List Bool) (u : ℕ) → Marked ms u → Marked (markDown (g .net) k ms) u
   unfolding markDown
   down-keeps zero ms u m = m
   down-keeps (suc k) ms u m = down-keeps k _ u (fanins-keep (g .net) _ ms u m)
@@ -84,7 +84,7 @@ module _ (g : Graph) where
         (fanins-only (g .net) (var k) ms u (down-low k _ u (omega arith) (omega arith) m))
 
     -- afterwards the fanins of each marked gate are marked
-    down-closed : (k : ℕ) (ms : List Bool) → k ≤ size (g .net) → last (g .net) < length ms → (v : ℕ) → free (g .net) < v → v ≤ free (g .net) + k
+    pub down-closed : (k : ℕ) (ms : List Bool) → k ≤ size (g .net) → last (g .net) < length ms → (v : ℕ) → free (g .net) < v → v ≤ free (g .net) + k
         → Marked (markDown (g .net) k ms) v → Marked (markDown (g .net) k ms) (varOf (first (g .net) v)) × Marked (markDown (g .net) k ms) (varOf (second (g .net) v))
     unfolding markDown var
     down-closed zero ms h b v l t m = absurd (omega arith)

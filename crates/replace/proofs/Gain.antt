@@ -1,8 +1,8 @@
 -- A gain of at least 1 means that fewer gates are in use, and is the number of them that the replacement saves.
 -- Assumes nothing.
-use mathlib.Core.Path.{_≡_, refl, ap, _∙_}
+use mathlib.Core.Path.{_≡_, refl, sym, ap, _∙_}
 use mathlib.Core.Bool.{Bool, true, false, cond, false≢true}
-use mathlib.Core.Logic.{_↔_}
+use mathlib.Core.Logic.{⊎-elim, _↔_}
 use Prim.Native.Nat.{ℕ, suc, _+_, _-_, _≤_, _<_}
 use native.Mathlib.Omega.{arith}
 use borrow.Author.Tests.{ltb-true, ltb-false, lt-ltb, le-ltb}
@@ -10,6 +10,7 @@ use lib.Dec.{ltb}
 use lib.IntN.{ℤ, pos, negsuc, natAbs, subℕ}
 use Rattle.graph.specs.Graph.{Graph}
 use Rattle.graph.specs.Use.{usedGates}
+use Rattle.graph.proofs.Lists.{at-most-or-above}
 use Rattle.replace.specs.declared.Proposal.{Proposal}
 use Rattle.replace.specs.Rewire.{finished, gain, atLeastOne}
 
@@ -26,8 +27,8 @@ falls-at-least-one : (a b : ℕ) → b < a → atLeastOne (subℕ a b) ≡ true
 unfolding atLeastOne
 falls-at-least-one a b l = ap (λ (t : Bool). atLeastOne (cond t (negsuc (b - suc a)) (pos (a - b)))) (le-ltb a b (omega arith)) ∙ lt-ltb 0 (a - b) (omega arith)
 
-positive-difference : (a b n : ℕ) → subℕ a b ≡ pos n → 1 ≤ n → b + n ≡ a
-positive-difference a b n e h = go (ltb a b) refl e
+pub difference : (a b n : ℕ) → subℕ a b ≡ pos n → b + n ≡ a
+difference a b n e = go (ltb a b) refl e
   where
     go : (t : Bool) → ltb a b ≡ t → cond t (negsuc (b - suc a)) (pos (a - b)) ≡ pos n → b + n ≡ a
     go true q d = absurd (false≢true (ap isPos d))
@@ -37,6 +38,15 @@ positive-difference a b n e h = go (ltb a b) refl e
         isPos (negsuc m) = false
     go false q d = omega (arith, ap natAbs d, ltb-false a b q)
 
+-- two pairs of numbers with the same sum crosswise have the same difference
+pub same-difference : (a b c d : ℕ) → b + c ≡ a + d → subℕ a b ≡ subℕ c d
+same-difference a b c d e =
+    let m : b - suc a ≡ d - suc c = omega arith in
+    let n : a - b ≡ c - d = omega arith in
+    let t : ltb a b ≡ ltb c d = ⊎-elim
+    (λ l. lt-ltb a b (omega arith) ∙ sym (lt-ltb c d l)) (λ l. le-ltb a b (omega arith) ∙ sym (le-ltb c d (omega arith))) (at-most-or-above (suc c) d) in
+    rw (t, m, n)
+
 module _ (g : Graph) (root : ℕ) (p : Proposal) where
   pub gain-iff : (atLeastOne (gain g root p) ≡ true) ↔ (usedGates (finished g root p) < usedGates g)
   unfolding gain
@@ -45,4 +55,4 @@ module _ (g : Graph) (root : ℕ) (p : Proposal) where
   -- R falls by the gain
   pub falls-by-gain : (n : ℕ) → gain g root p ≡ pos n → 1 ≤ n → usedGates (finished g root p) + n ≡ usedGates g
   unfolding gain
-  falls-by-gain n e h = positive-difference (usedGates g) (usedGates (finished g root p)) n e h
+  falls-by-gain n e h = difference (usedGates g) (usedGates (finished g root p)) n e

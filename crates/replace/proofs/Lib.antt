@@ -1,6 +1,10 @@
 pub mod Circuit
 pub mod Allowed
 pub mod Rewire
+pub mod Reach
 pub mod Replacement
 pub mod Gain
+pub mod Counts
+pub mod Past
+pub mod Vanish
 pub mod Refusals

@@ -89,7 +89,7 @@ module _ (net : Net) (root : ℕ) (p : Proposal) where
     unfolding rewiredGate
     other-gate n = words _ _ (rw (ne-eqb v root n))
 
-    literal-root : v ≡ root → p .kind ≡ 0 → Holds (first net root) (second net root)
+    pub literal-root : v ≡ root → p .kind ≡ 0 → Holds (first net root) (second net root)
     unfolding rewiredGate rootGates
     literal-root e k = words _ _ (rw (eq-eqb v root e, k))
 

@@ -1,3 +1,4 @@
 pub mod Proposal
 pub mod Rewire
+pub mod Vanish
 pub mod Calls
