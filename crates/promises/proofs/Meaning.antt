@@ -23,10 +23,9 @@ use Rattle.text.proofs.RoundTrip.{text-of-short, round-trip}
 use Rattle.window.specs.declared.Leaves.{Leaves}
 use Rattle.window.proofs.Coverage.{covered-iff}
 use Rattle.replace.specs.declared.Proposal.{Proposal}
-use Rattle.replace.specs.Rewire.{rewired, finished}
+use Rattle.replace.specs.Rewire.{finished}
 use Rattle.replace.specs.Calls.{applyEffect, appliedOutcome}
-use Rattle.replace.proofs.Rewire.{finished-free, rewired-lawful, finished-well-formed}
-use Rattle.replace.proofs.Replacement.{Fits, finished-keeps-outputs}
+use Rattle.replace.proofs.Finished.{finished-free, finished-all-reached, finished-well-formed, Fits, finished-keeps-outputs}
 use Rattle.replace.proofs.Refusals.{Accepted, apply-accepted}
 use Rattle.run.specs.Run.{run}
 use Rattle.run.proofs.Run.{run-keeps-inputs, run-keeps-outputs, run-well-formed, run-all-reached}
@@ -111,8 +110,8 @@ module _ (g : Graph) (root : ℕ) (w : Leaves) (p : Proposal) (b : Buffers) (acc
   pub replacement-keeps : Keeps g (finished g root p)
   replacement-keeps =
       keeps g (finished g root p) (finished-free g root p) (finished-keeps-outputs g root w p fits)
-      (finished-well-formed g (facts .window .graph) root (fits .gate) w p (fits .rule))
-      (unfold finished in dropped-all-reached (rewired g root p) (rewired-lawful g lawful root (fits .gate) w p (fits .rule)))
+      (finished-well-formed g (facts .window .graph) root (fits .gate) w p (fits .rule) (facts .fewer))
+      (finished-all-reached g lawful root (fits .gate) w p (fits .rule))
 
   pub replacement-leaves-fewer-gates : usedGates (finished g root p) < usedGates g
   replacement-leaves-fewer-gates = facts .fewer

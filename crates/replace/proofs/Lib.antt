@@ -1,5 +1,6 @@
 pub mod Circuit
 pub mod Allowed
+pub mod Pieces
 pub mod Rewire
 pub mod Reach
 pub mod Replacement
@@ -7,4 +8,6 @@ pub mod Gain
 pub mod Counts
 pub mod Past
 pub mod Vanish
+pub mod GainLaw
+pub mod Finished
 pub mod Refusals

@@ -14,13 +14,12 @@ use Rattle.graph.specs.Graph.{Net, Graph, sinks, first, second, IsGate, Lawful}
 use Rattle.graph.specs.Use.{Reached, as-output, as-first, as-second}
 use Rattle.graph.proofs.Lists.{at-most-or-above, equal-or-not}
 use Rattle.graph.proofs.Members.{map-at}
+use Rattle.graph.proofs.Marks.{NamedBy}
 use Rattle.graph.proofs.Use.{first-lower, second-lower}
-use Rattle.window.specs.declared.Leaves.{Leaves}
 use Rattle.replace.specs.declared.Proposal.{Proposal}
-use Rattle.replace.specs.Proposal.{Allowed, a-literal, an-and}
 use Rattle.replace.specs.Rewire.{standIn, redirected, rewiredNet, rewired}
 use Rattle.replace.specs.Vanish.{Without, by-output, by-first, by-second, literals, From}
-use Rattle.replace.proofs.Rewire.{literal-stands, root-stands, redirected-root, redirected-other, rewired-size, rewired-free, other-gate, and-root}
+use Rattle.replace.proofs.Rewire.{literal-stands, root-stands, redirected-root, redirected-other, rewired-size, rewired-free, other-gate, and-root, Wires, to-literal, to-and}
 
 -- ---- reached by fanins, whichever of the two
 
@@ -30,7 +29,19 @@ Fanin net v u = (varOf (first net v) ≡ u) ⊎ (varOf (second net v) ≡ u)
 
 -- u is the variable of one of the proposal's literals
 abbrev pub Named : Proposal → ℕ → Type 0
-Named p u = (varOf (p .first .0) ≡ u) ⊎ (varOf (p .second .0) ≡ u)
+Named p u = NamedBy (literals p) u
+
+module _ (p : Proposal) (u : ℕ) where
+  as-named : (varOf (p .first .0) ≡ u) ⊎ (varOf (p .second .0) ≡ u) → Named p u
+  as-named f = ⊎-elim (λ e. record { place = 0; within = omega arith; names = e }) (λ e. record { place = 1; within = omega arith; names = e }) f
+
+  pub named-either : Named p u → (varOf (p .first .0) ≡ u) ⊎ (varOf (p .second .0) ≡ u)
+  named-either n = at (n .place) (n .within) (n .names)
+    where
+      at : (j : ℕ) → j < 2 → varOf (getD (literals p) j 0) ≡ u → (varOf (p .first .0) ≡ u) ⊎ (varOf (p .second .0) ≡ u)
+      at zero h e = inl e
+      at (suc zero) h e = inr e
+      at (suc (suc j)) h e = absurd (omega arith)
 
 module _ (g : Graph) where
   pub by-fanin : (v u : ℕ) → IsGate (g .net) v → Reached g v → Fanin (g .net) v u → Reached g u
@@ -72,17 +83,12 @@ module _ (net : Net) (v x y : ℕ) (a : first net v ≡ max x y) (b : second net
 
 module _ (g : Graph) (root : ℕ) (p : Proposal) where
   pub from-named : (u : ℕ) → Named p u → From (g .net) p u
-  from-named u f = ⊎-elim (λ e. subst (From (g .net) p) e (as-output 0 (omega arith))) (λ e. subst (From (g .net) p) e (as-output 1 (omega arith))) f
+  from-named u n = subst (From (g .net) p) (n .names) (as-output (n .place) (n .within))
 
   -- from the literals on down
   pub by-from : (P : ℕ → Type 0) → ((u : ℕ) → Named p u → P u)
       → ((v u : ℕ) → IsGate (g .net) v → From (g .net) p v → P v → Fanin (g .net) v u → P u) → (v : ℕ) → From (g .net) p v → P v
-  by-from P named step = by-reach (record { net = g .net; outputs = literals p }) P out step
-    where
-      out : (j : ℕ) → j < 2 → P (varOf (getD (literals p) j 0))
-      out zero h = named _ (inl refl)
-      out (suc zero) h = named _ (inr refl)
-      out (suc (suc j)) h = absurd (omega arith)
+  by-from P named step = by-reach (record { net = g .net; outputs = literals p }) P (λ j h. named _ (record { place = j; within = h; names = refl })) step
 
   module _ (ok : Lawful g) (low : (u : ℕ) → Named p u → u < root) where
     pub from-below : (v : ℕ) → From (g .net) p v → v < root
@@ -131,7 +137,7 @@ module _ (g : Graph) (root : ℕ) (gate : IsGate (g .net) root) (p : Proposal) w
       (⊎-elim (λ e. inl (redirected-goes (first (g .net) v) ∙ ap goes e)) (λ e. inr (redirected-goes (second (g .net) v) ∙ ap goes e)) f)
 
   -- the root's gate in kind 1
-  root-fanin : p .kind ≡ 1 → (v u : ℕ) → IsGate (g .net) v → v ≡ root → Fanin (rewired g root p .net) v u ↔ Named p u
+  root-fanin : p .kind ≡ 1 → (v u : ℕ) → IsGate (g .net) v → v ≡ root → Fanin (rewired g root p .net) v u ↔ ((varOf (p .first .0) ≡ u) ⊎ (varOf (p .second .0) ≡ u))
   unfolding rewired
   root-fanin k v u i e = let h = and-root (g .net) root p v i e k in
       (of-two (rewiredNet (g .net) root p) v _ _ (h .0) (h .1) u, two-of (rewiredNet (g .net) root p) v _ _ (h .0) (h .1) u)
@@ -166,21 +172,21 @@ module _ (g : Graph) (root : ℕ) (gate : IsGate (g .net) root) (p : Proposal) w
 
   -- ---- by kind
 
-  module _ (w : Leaves) (rule : Allowed (g .net) root w p) where
+  module _ (wires : Wires root p) where
     pub named-below : (u : ℕ) → Named p u → u < root
-    named-below u f = go rule
+    named-below u n = go wires
       where
-        go : Allowed (g .net) root w p → u < root
-        go (a-literal k d s t) = let h = gate .above in let b = d .below-root in ⊎-elim (λ e. omega arith) (λ e. omega arith) f
-        go (an-and k d d′ z l t) = let b = d .below-root in let b′ = d′ .below-root in ⊎-elim (λ e. omega arith) (λ e. omega arith) f
+        go : Wires root p → u < root
+        go (to-literal k l s) = let h = gate .above in ⊎-elim (λ e. omega arith) (λ e. omega arith) (named-either p u n)
+        go (to-and k l m t) = ⊎-elim (λ e. omega arith) (λ e. omega arith) (named-either p u n)
 
     -- a reference goes to a literal's variable, to the root, or where it went
     lands : (t u : ℕ) → goes t ≡ u → ¬ (u ≡ root) → Named p u ⊎ ((¬ (t ≡ root)) × (t ≡ u))
-    lands t u q n = ⊎-elim (λ e. inl (go e rule)) (λ m. inr (m, sym (goes-other t m) ∙ q)) (equal-or-not t root)
+    lands t u q n = ⊎-elim (λ e. inl (go e wires)) (λ m. inr (m, sym (goes-other t m) ∙ q)) (equal-or-not t root)
       where
-        go : t ≡ root → Allowed (g .net) root w p → Named p u
-        go e (a-literal k d s x) = inl (omega (arith, goes-root t e, literal-stands root p k))
-        go e (an-and k d d′ y l x) = absurd (n (omega (arith, goes-root t e, root-stands root p k)))
+        go : t ≡ root → Wires root p → Named p u
+        go e (to-literal k l s) = as-named p u (inl (omega (arith, goes-root t e, literal-stands root p k)))
+        go e (to-and k l m x) = absurd (n (omega (arith, goes-root t e, root-stands root p k)))
 
     -- in kind 0 the root is not reached
     pub root-unreached : p .kind ≡ 0 → (v : ℕ) → Reached (rewired g root p) v → ¬ (v ≡ root)
@@ -190,7 +196,7 @@ module _ (g : Graph) (root : ℕ) (gate : IsGate (g .net) root) (p : Proposal) w
       where
         elsewhere : (t : ℕ) → ¬ (goes t ≡ root)
         elsewhere t q = ⊎-elim
-            (λ e. let f = named-below (varOf (p .first .0)) (inl refl) in omega (arith, goes-root t e, literal-stands root p k))
+            (λ e. let f = named-below (varOf (p .first .0)) (as-named p _ (inl refl)) in omega (arith, goes-root t e, literal-stands root p k))
             (λ n. n (sym (goes-other t n) ∙ q)) (equal-or-not t root)
 
     pub rewired-beside : (v : ℕ) → Reached (rewired g root p) v → ¬ (v ≡ root) → Without g root v ⊎ From (g .net) p v
@@ -199,17 +205,17 @@ module _ (g : Graph) (root : ℕ) (gate : IsGate (g .net) root) (p : Proposal) w
         (λ f. inr (from-named g root p _ f))
         (λ m. inl (subst (Without g root) (m .1) (by-output j l (m .0)))) (lands _ _ (sym (sink-goes j l)) n))
         (λ v u i r ih f n. let o = same-gates v .0 i in ⊎-elim
-        (λ e. at-root v u e o r f rule)
+        (λ e. at-root v u e o r f wires)
         (λ m. let t = fanin-from v u o m f in ⊎-elim
         (λ f. inr (from-named g root p u f))
         (λ s. let k = rw (s .1) at (t .1) in ⊎-elim (λ x. inl (without-fanin g root v u o x n k)) (λ x. inr (by-fanin _ v u o x k)) (ih m))
         (lands (t .0) u (t .2) n))
         (equal-or-not v root))
       where
-        at-root : (v u : ℕ) → v ≡ root → IsGate (g .net) v → Reached (rewired g root p) v → Fanin (rewired g root p .net) v u → Allowed (g .net) root w p
+        at-root : (v u : ℕ) → v ≡ root → IsGate (g .net) v → Reached (rewired g root p) v → Fanin (rewired g root p .net) v u → Wires root p
             → Without g root u ⊎ From (g .net) p u
-        at-root v u e i r f (a-literal k d s x) = absurd (root-unreached k v r e)
-        at-root v u e i r f (an-and k d d′ y l x) = inr (from-named g root p u (root-fanin k v u i e .0 f))
+        at-root v u e i r f (to-literal k l s) = absurd (root-unreached k v r e)
+        at-root v u e i r f (to-and k l m x) = inr (from-named g root p u (as-named p u (root-fanin k v u i e .0 f)))
 
     module _ (ok : Lawful g) (used : Reached g root) where
       -- in kind 1 the root is reached
@@ -217,13 +223,13 @@ module _ (g : Graph) (root : ℕ) (gate : IsGate (g .net) root) (p : Proposal) w
       root-reached k t = let e : goes root ≡ root = omega (arith, goes-root root refl, root-stands root p k) in rw e at (root-goes ok used)
 
       named-reached : (u : ℕ) → Named p u → 0 < u → Reached (rewired g root p) u
-      named-reached u f z = go rule
+      named-reached u f z = go wires
         where
-          go : Allowed (g .net) root w p → Reached (rewired g root p) u
-          go (a-literal k d s t) = ⊎-elim
+          go : Wires root p → Reached (rewired g root p) u
+          go (to-literal k l s) = ⊎-elim
               (λ e. subst (Reached (rewired g root p)) (goes-root root refl ∙ ap varOf (literal-stands root p k) ∙ e) (root-goes ok used))
-              (λ e. absurd (omega arith)) f
-          go (an-and k d d′ y l t) = by-fanin (rewired g root p) root u (same-gates root .1 gate) (root-reached k t) (root-fanin k root u gate refl .1 f)
+              (λ e. absurd (omega arith)) (named-either p u f)
+          go (to-and k l m t) = by-fanin (rewired g root p) root u (same-gates root .1 gate) (root-reached k t) (root-fanin k root u gate refl .1 (named-either p u f))
 
       from-rewired : (v : ℕ) → From (g .net) p v → 0 < v → Reached (rewired g root p) v
       from-rewired = by-from g root p (λ v. 0 < v → Reached (rewired g root p) v) named-reached

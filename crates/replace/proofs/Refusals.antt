@@ -38,7 +38,7 @@ use Rattle.replace.specs.Calls.{
 }
 use Rattle.replace.proofs.Gain.{gain-iff}
 use Rattle.replace.proofs.Allowed.{allowed-iff}
-use Rattle.replace.proofs.Rewire.{finished-well-formed}
+use Rattle.replace.proofs.Finished.{finished-well-formed}
 
 equal-iff : (g : Graph) (root : ℕ) (w : Leaves) (p : Proposal)
     → (equalTables g root w p ≡ true) ↔ (proposedTable (g .net) root w p ≡ table (g .net) w root)
@@ -120,7 +120,8 @@ module _ (g : Graph) (root : ℕ) (w : Leaves) (p : Proposal) where
     never-given l (order-lost h) =
         l .none-lower BadGraph (omega arith) (by-window (by-root (bad-graph (λ ok.
         l .none-lower BadRoot (omega arith) (by-window (by-root (bad-root (λ used.
-        l .none-lower BadCandidate (omega arith) (bad-candidate (λ rule. h (finished-well-formed g ok root (used .is-gate) w p rule)))))))))))
+        l .none-lower BadCandidate (omega arith) (bad-candidate (λ rule.
+        l .none-lower NoGain (omega arith) (no-gain (no-fewer (λ fewer. h (finished-well-formed g ok root (used .is-gate) w p rule fewer))))))))))))))
 
     pub order-lost-never-given : ¬ ((appliedOutcome ((applyEffect g root w p b) .answer)) .number ≡ numberOf OrderLost)
     order-lost-never-given e = let l = apply-answers .refuses OrderLost .0 e in never-given l (l .holds)

@@ -1,5 +1,4 @@
--- A replacement whose table is the root's leaves every output its value, in the rewired and in the finished graph.
--- Kinds 0 and 1 are two uses of the one argument in Circuit.
+-- Rewiring replaces the root by what the proposal computes: kinds 0 and 1 are two uses of the one argument in Circuit.
 -- Assumes nothing.
 use mathlib.Core.Path.{_≡_, refl, sym, ap, ap₂, _∙_}
 use mathlib.Core.Bool.{Bool, true, cond, _&&_, and-comm}
@@ -11,33 +10,19 @@ use lib.Dec.{eqb}
 use Rattle.graph.specs.Literal.{varOf, isOdd, flip}
 use Rattle.graph.specs.Graph.{Net, Graph, sinks, first, second, IsGate, Lawful}
 use Rattle.graph.specs.Sweep.{bools, turned, litValue}
-use Rattle.graph.specs.Evaluate.{valueUnder, literalUnder, valuesUnder, outputsUnder}
+use Rattle.graph.specs.Evaluate.{valueUnder, literalUnder, valuesUnder}
 use Rattle.graph.proofs.Lists.{at-most-or-above, equal-or-not, map-same}
 use Rattle.graph.proofs.Values.{literal-value, value-gate}
 use Rattle.graph.proofs.Stand.{moved, Copies, in-order, exchanged}
-use Rattle.graph.proofs.DropKeeps.{dropped-keeps-outputs}
-use Rattle.window.specs.declared.Leaves.{Leaves}
-use Rattle.window.specs.Leaves.{leafLimit}
-use Rattle.window.specs.Local.{covered}
-use Rattle.window.specs.Table.{table}
 use Rattle.replace.specs.declared.Proposal.{Proposal}
-use Rattle.replace.specs.Proposal.{Allowed, a-literal, an-and, proposedValue, proposedTable}
-use Rattle.replace.specs.Rewire.{standIn, redirected, rewired, finished}
-use Rattle.replace.proofs.Circuit.{Replaced, replaced-keeps-outputs}
-use Rattle.replace.proofs.Allowed.{value-of-literal, value-of-and, equal-table-computes}
-use Rattle.replace.proofs.Rewire.{literal-stands, root-stands, redirected-root, redirected-other, rewired-size, rewired-free, other-gate, and-root, rewired-lawful}
-
--- all that is asked of a replacement but its gain
-pub record Fits (g : Graph) (root : ℕ) (w : Leaves) (p : Proposal) : Type 0 where
-  pub lawful : Lawful g
-  pub gate : IsGate (g .net) root
-  pub few : w .count ≤ leafLimit
-  pub cut : covered (g .net) w root ≡ true
-  pub rule : Allowed (g .net) root w p
-  pub equal : proposedTable (g .net) root w p ≡ table (g .net) w root
+use Rattle.replace.specs.Proposal.{proposedValue}
+use Rattle.replace.specs.Rewire.{standIn, redirected, rewired}
+use Rattle.replace.proofs.Circuit.{Replaced}
+use Rattle.replace.proofs.Allowed.{value-of-literal, value-of-and}
+use Rattle.replace.proofs.Rewire.{literal-stands, root-stands, redirected-root, redirected-other, rewired-size, rewired-free, other-gate, and-root, Wires, to-literal, to-and, rewired-lawful}
 
 -- the literal that stands for variable v afterwards
-standFor : ℕ → Proposal → ℕ → ℕ
+pub standFor : ℕ → Proposal → ℕ → ℕ
 standFor root p v = cond (eqb v root) (standIn root p) (2 * v)
 
 stand-root : (root : ℕ) (p : Proposal) (v : ℕ) → v ≡ root → standFor root p v ≡ standIn root p
@@ -61,7 +46,7 @@ either-order f x y = ⊎-elim
     (λ h. let a : max x y ≡ y = omega arith in let b : min x y ≡ x = omega arith in rw (a, b) (and-comm (f y) (f x)))
     (λ h. let a : max x y ≡ x = omega arith in let b : min x y ≡ y = omega arith in rw (a, b)) (at-most-or-above x y)
 
-module _ (g : Graph) (root : ℕ) (w : Leaves) (p : Proposal) (fits : Fits g root w p) where
+module _ (g : Graph) (ok : Lawful g) (root : ℕ) (gate : IsGate (g .net) root) (p : Proposal) (wires : Wires root p) where
   g′ : Graph
   g′ = rewired g root p
 
@@ -70,7 +55,7 @@ module _ (g : Graph) (root : ℕ) (w : Leaves) (p : Proposal) (fits : Fits g roo
 
   lawful′ : Lawful g′
   unfolding g′
-  lawful′ = rewired-lawful g (fits .lawful) root (fits .gate) w p (fits .rule)
+  lawful′ = rewired-lawful g ok root gate p wires
 
   gate′ : (v : ℕ) → IsGate (g .net) v → IsGate (g′ .net) v
   unfolding g′ rewired
@@ -103,10 +88,10 @@ module _ (g : Graph) (root : ℕ) (w : Leaves) (p : Proposal) (fits : Fits g roo
     and-at-root : p .kind ≡ 1 → valueUnder (g′ .net) a root ≡ literalUnder (g′ .net) a (p .first .0) && literalUnder (g′ .net) a (p .second .0)
     unfolding g′ rewired
     and-at-root k =
-        let i = gate′ root (fits .gate) in
+        let i = gate′ root gate in
         let b = lawful′ .below root i in
         let o = lawful′ .ordered root i in
-        let h = and-root (g .net) root p root (fits .gate) refl k in
+        let h = and-root (g .net) root p root gate refl k in
         value-gate (g′ .net) a root (i .above) b (omega arith)
         ∙ ap₂ (λ (x y : ℕ). literalUnder (g′ .net) a x && literalUnder (g′ .net) a y) (h .0) (h .1)
         ∙ either-order (literalUnder (g′ .net) a) (p .first .0) (p .second .0)
@@ -118,39 +103,29 @@ module _ (g : Graph) (root : ℕ) (w : Leaves) (p : Proposal) (fits : Fits g roo
         let var : varOf (2 * root + p .turned) ≡ root = omega arith in
         ap (literalUnder (g′ .net) a) (root-stands root p k) ∙ ap₂ (λ (s v : ℕ). turned bools (eqb s 1) (valueUnder (g′ .net) a v)) sign var
 
-    root-is : Allowed (g .net) root w p → literalUnder (g′ .net) a (standIn root p) ≡ proposedValue bools (valuesUnder (g′ .net) a root) p
+    root-is : Wires root p → literalUnder (g′ .net) a (standIn root p) ≡ proposedValue bools (valuesUnder (g′ .net) a root) p
     unfolding bools
-    root-is (a-literal k d s t) =
+    root-is (to-literal k l s) =
         ap (literalUnder (g′ .net) a) (literal-stands root p k)
-        ∙ sym (value-in (p .first .0) (d .below-root))
+        ∙ sym (value-in (p .first .0) l)
         ∙ sym (value-of-literal p k (valuesUnder (g′ .net) a root))
-    root-is (an-and k d d′ z l t) =
+    root-is (to-and k l m t) =
         root-literal k t
-        ∙ ap (turned bools (isOdd (p .turned)))
-        (and-at-root k ∙ sym (ap₂ _&&_ (value-in (p .first .0) (d .below-root)) (value-in (p .second .0) (d′ .below-root))))
+        ∙ ap (turned bools (isOdd (p .turned))) (and-at-root k ∙ sym (ap₂ _&&_ (value-in (p .first .0) l) (value-in (p .second .0) m)))
         ∙ sym (value-of-and p k (valuesUnder (g′ .net) a root))
 
-  -- ---- the theorems
+  -- ---- a use of the one argument
 
-  replaced : Replaced g g′ root stand (λ vs. proposedValue bools vs p)
-  replaced = record {
+  pub rewired-replaced : Replaced g (rewired g root p) root (standFor root p) (λ vs. proposedValue bools vs p)
+  unfolding g′
+  rewired-replaced = record {
     same-free = unfold g′ rewired in sym (rewired-free (g .net) root p);
     stays = λ v h. stand-other root p v (λ e. omega arith);
     new = λ v. v;
     new-is = λ v i n. stand-other root p v n;
     new-gate = λ v i n. gate′ v i;
     copies = copies;
-    root-is = λ a. ap (literalUnder (g′ .net) a) (stand-root root p root refl) ∙ root-is a (fits .rule);
+    root-is = λ a. ap (literalUnder (g′ .net) a) (stand-root root p root refl) ∙ root-is a wires;
     outputs-moved = unfold g′ rewired in
         map-same (redirected root p) (moved (g .net) (g′ .net) stand) 0 (sinks g) (λ j h. sym (moved-is (g .net) (g′ .net) root p _));
   }
-
-  pub rewired-keeps-outputs : (a : ℕ → Bool) → outputsUnder (rewired g root p) a ≡ outputsUnder g a
-  unfolding g′
-  rewired-keeps-outputs a =
-      replaced-keeps-outputs g g′ (fits .lawful) lawful′ root (fits .gate) w (fits .cut) stand (λ vs. proposedValue bools vs p)
-      (equal-table-computes (g .net) root w p (fits .few) (fits .rule) (fits .equal)) replaced a
-
-  pub finished-keeps-outputs : (a : ℕ → Bool) → outputsUnder (finished g root p) a ≡ outputsUnder g a
-  unfolding finished g′
-  finished-keeps-outputs a = dropped-keeps-outputs (rewired g root p) lawful′ a ∙ rewired-keeps-outputs a

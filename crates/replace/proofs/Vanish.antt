@@ -1,4 +1,4 @@
--- The gain law: the gain is how many gates in use go with the root, less those that the proposal puts there and those that its literals hold back.
+-- What goes with a root and what a proposal holds back, and R of the rewired graph by these.
 -- Assumes nothing.
 use mathlib.Core.Path.{_≡_, refl, sym, ap, _∙_, subst}
 use mathlib.Core.Bool.{Bool, true, false, cond}
@@ -7,26 +7,20 @@ use mathlib.Core.Logic.{_⊎_, inl, inr, ⊎-elim, _↔_}
 use Prim.Native.Nat.{ℕ, zero, suc, _+_, _-_, _≤_, _<_}
 use native.Mathlib.Nat.{le-refl}
 use native.Mathlib.Omega.{arith}
-use lib.IntN.{pos, subℕ}
 use lib.ListN.{length, getD}
 use Rattle.graph.specs.Lists.{gather, keep}
 use Rattle.graph.specs.Literal.{varOf}
 use Rattle.graph.specs.Graph.{Graph, free, size, last, IsGate, Lawful}
-use Rattle.graph.specs.Use.{Reached, as-output, InUse, markEach, markDown, marks, countMarks, usedGates}
+use Rattle.graph.specs.Use.{Reached, as-output, markEach, markDown, marks, countMarks, usedGates}
 use Rattle.graph.proofs.Lists.{true-or-false, same-tests}
 use Rattle.graph.proofs.Marks.{Marked, each-length, each-keeps, each-marks, each-only}
 use Rattle.graph.proofs.Use.{down-keeps, down-closed, marked-reached, reached-marked}
-use Rattle.graph.proofs.Drop.{dropped-uses}
-use Rattle.window.specs.declared.Leaves.{Leaves}
-use Rattle.window.specs.Local.{zero-is}
-use Rattle.window.proofs.Coverage.{covered-iff}
 use Rattle.replace.specs.declared.Proposal.{Proposal}
-use Rattle.replace.specs.Proposal.{literal, Allowed, a-literal, an-and}
-use Rattle.replace.specs.Rewire.{rewired, finished, gain, atLeastOne}
+use Rattle.replace.specs.Proposal.{literal}
+use Rattle.replace.specs.Rewire.{rewired}
 use Rattle.replace.specs.Vanish.{Without, by-output, by-first, by-second, literals, From, newGates, marksWithout, marksBeside, countApart, leaving, heldBack}
-use Rattle.replace.proofs.Rewire.{rewired-size, rewired-free, rewired-lawful}
-use Rattle.replace.proofs.Reach.{Named, by-fanin, by-reach, fanin-lower, without-fanin, without-not-root, from-named, by-from, from-below, named-below, without-rewired, rewired-beside, root-unreached, root-reached, rewired-reached}
-use Rattle.replace.proofs.Gain.{difference, same-difference, gain-iff}
+use Rattle.replace.proofs.Rewire.{rewired-size, rewired-free, Wires, to-literal, to-and, rewired-lawful}
+use Rattle.replace.proofs.Reach.{Named, named-either, by-fanin, by-reach, fanin-lower, without-fanin, without-not-root, from-named, by-from, from-below, named-below, without-rewired, rewired-beside, root-unreached, root-reached, rewired-reached}
 use Rattle.replace.proofs.Counts.{apart, counted, apart-has, apart-stays, apart-more, but-root, same-count, marks-length, down-only}
 use Rattle.replace.proofs.Past.{without-is}
 
@@ -45,21 +39,18 @@ not-marked : (ms : List Bool) (v : ℕ) → ¬ Marked ms v → getD ms v false �
 not-marked ms v n = ⊎-elim (λ m. absurd (n m)) (λ m. m) (true-or-false (getD ms v false))
 
 module _ (g : Graph) (ok : Lawful g) (root : ℕ) (gate : IsGate (g .net) root) where
-  no-leaves : Leaves
-  no-leaves = record { count = 0; places = [] }
-
-  nought : Allowed (g .net) root no-leaves (literal 0)
-  nought = a-literal refl (record { below-root = let h = gate .above in omega arith; is-covered = covered-iff g ok no-leaves 0 (omega arith) .1 zero-is }) refl refl
+  nought : Wires root (literal 0)
+  nought = to-literal refl (let h = gate .above in omega arith) refl
 
   nought-reaches : (v : ℕ) → From (g .net) (literal 0) v → v ≡ 0
-  nought-reaches = by-from g root (literal 0) (λ v. v ≡ 0) (λ u f. ⊎-elim (λ e. omega arith) (λ e. omega arith) f) (λ v u i r e f. absurd (let h = i .above in omega arith))
+  nought-reaches = by-from g root (literal 0) (λ v. v ≡ 0) (λ u n. ⊎-elim (λ e. omega arith) (λ e. omega arith) (named-either (literal 0) u n)) (λ v u i r e f. absurd (let h = i .above in omega arith))
 
   -- a mark is there for what is reached through no reference to the root
   pub without-iff : (v : ℕ) → 0 < v → Marked (marksWithout g root) v ↔ Without g root v
   without-iff v z = rw (← without-is g ok root gate) (
     λ m. let r = marked-reached (rewired g root (literal 0)) v m in ⊎-elim (λ x. x) (λ x. absurd (let e = nought-reaches v x in omega arith))
-        (rewired-beside g root gate (literal 0) no-leaves nought v r (root-unreached g root gate (literal 0) no-leaves nought refl v r)),
-    λ x. reached-marked (rewired g root (literal 0)) (rewired-lawful g ok root gate no-leaves (literal 0) nought) v (without-rewired g root gate (literal 0) v x),
+        (rewired-beside g root gate (literal 0) nought v r (root-unreached g root gate (literal 0) nought refl v r)),
+    λ x. reached-marked (rewired g root (literal 0)) (rewired-lawful g ok root gate (literal 0) nought) v (without-rewired g root gate (literal 0) v x),
   )
 
   without-length : length (marksWithout g root) ≡ suc (last (g .net))
@@ -80,7 +71,7 @@ module _ (g : Graph) (ok : Lawful g) (root : ℕ) (gate : IsGate (g .net) root) 
 
   -- ---- and with the proposal's literals
 
-  module _ (w : Leaves) (p : Proposal) (rule : Allowed (g .net) root w p) where
+  module _ (p : Proposal) (low : (u : ℕ) → Named p u → u < root) where
     start : List Bool
     start = markEach (literals p) (marksWithout g root)
 
@@ -93,19 +84,13 @@ module _ (g : Graph) (ok : Lawful g) (root : ℕ) (gate : IsGate (g .net) root) 
 
     start-only : (v : ℕ) → Marked start v → Named p v ⊎ Marked (marksWithout g root) v
     unfolding start
-    start-only v m = ⊎-elim (λ n. inl (at (n .place) (n .within) (n .names))) inr (each-only (literals p) (marksWithout g root) v m)
-      where
-        at : (j : ℕ) → j < 2 → varOf (getD (literals p) j 0) ≡ v → Named p v
-        at zero h e = inl e
-        at (suc zero) h e = inr e
-        at (suc (suc j)) h e = absurd (omega arith)
+    start-only v m = each-only (literals p) (marksWithout g root) v m
 
     start-has : (v : ℕ) → Named p v → Marked start v
     unfolding start
-    start-has v f =
-        let t = gate .within in let l = named-below g root gate p w rule v f in ⊎-elim
-        (λ e. subst (Marked start) e (each-marks (literals p) (marksWithout g root) 0 (omega arith) (omega (arith, without-length))))
-        (λ e. subst (Marked start) e (each-marks (literals p) (marksWithout g root) 1 (omega arith) (omega (arith, without-length)))) f
+    start-has v n =
+        let t = gate .within in let l = low v n in let e = n .names in
+        subst (Marked start) e (each-marks (literals p) (marksWithout g root) (n .place) (n .within) (omega (arith, without-length)))
 
     start-length : last (g .net) < length start
     unfolding start
@@ -129,7 +114,7 @@ module _ (g : Graph) (ok : Lawful g) (root : ℕ) (gate : IsGate (g .net) root) 
     from-marked : (v : ℕ) → From (g .net) p v → Marked (markDown (g .net) many start) v
     from-marked = by-from g root p (Marked (markDown (g .net) many start)) (λ u f. down-keeps g many start u (start-has u f))
         (λ v u i r m f.
-        let b = from-below g root p ok (named-below g root gate p w rule) v r in
+        let b = from-below g root p ok low v r in
         let c = down-closed g ok many start many-most start-length v (i .above) (unfold many in let h = gate .above in omega arith) m in
         ⊎-elim (λ e. subst (Marked (markDown (g .net) many start)) e (c .0)) (λ e. subst (Marked (markDown (g .net) many start)) e (c .1)) f)
 
@@ -139,33 +124,37 @@ module _ (g : Graph) (ok : Lawful g) (root : ℕ) (gate : IsGate (g .net) root) 
 
     beside-root : getD (marksBeside g root p) root false ≡ false
     beside-root = not-marked (marksBeside g root p) root (λ m. ⊎-elim (λ x. without-not-root g root root x refl)
-        (λ x. let l = from-below g root p ok (named-below g root gate p w rule) root x in omega arith) (beside-iff root (let h = gate .above in omega arith) .0 m))
+        (λ x. let l = from-below g root p ok low root x in omega arith) (beside-iff root (let h = gate .above in omega arith) .0 m))
 
     beside-split : countMarks (g .net) (marksBeside g root p) (size (g .net)) ≡ countMarks (g .net) (marksWithout g root) (size (g .net)) + heldBack g root p
     unfolding heldBack
     beside-split = apart (g .net) (marksBeside g root p) (marksWithout g root) (λ v i m. beside-keeps v m) (size (g .net)) (le-refl _)
 
-    -- ---- R afterwards
+  -- ---- R afterwards
+
+  module _ (p : Proposal) (wires : Wires root p) where
+    low-of : (u : ℕ) → Named p u → u < root
+    low-of = named-below g root gate p wires
 
     module _ (used : Reached g root) where
       lawful : Lawful (rewired g root p)
-      lawful = rewired-lawful g ok root gate w p rule
+      lawful = rewired-lawful g ok root gate p wires
 
       same-marks : (v : ℕ) → IsGate (g .net) v → ¬ (v ≡ root) → getD (marks (rewired g root p)) v false ≡ getD (marksBeside g root p) v false
       same-marks v i n =
           let z : 0 < v = let h = i .above in omega arith in
-          let s = rewired-reached g root gate p w rule ok used v z n in
-          same-tests _ _ (λ m. beside-iff v z .1 (s .0 (marked-reached (rewired g root p) v m))) (λ m. reached-marked (rewired g root p) lawful v (s .1 (beside-iff v z .0 m)))
+          let s = rewired-reached g root gate p wires ok used v z n in
+          same-tests _ _ (λ m. beside-iff p low-of v z .1 (s .0 (marked-reached (rewired g root p) v m))) (λ m. reached-marked (rewired g root p) lawful v (s .1 (beside-iff p low-of v z .0 m)))
 
       root-mark : cond (getD (marks (rewired g root p)) root false) 1 0 ≡ newGates p
-      root-mark = go rule
+      root-mark = go wires
         where
-          go : Allowed (g .net) root w p → cond (getD (marks (rewired g root p)) root false) 1 0 ≡ newGates p
-          go (a-literal k d s t) =
-              ap (λ (b : Bool). cond {A = ℕ} b 1 0) (not-marked (marks (rewired g root p)) root (λ m. root-unreached g root gate p w rule k root (marked-reached (rewired g root p) root m) refl))
+          go : Wires root p → cond (getD (marks (rewired g root p)) root false) 1 0 ≡ newGates p
+          go (to-literal k l s) =
+              ap (λ (b : Bool). cond {A = ℕ} b 1 0) (not-marked (marks (rewired g root p)) root (λ m. root-unreached g root gate p wires k root (marked-reached (rewired g root p) root m) refl))
               ∙ sym (new-literal p k)
-          go (an-and k d d′ y l t) =
-              ap (λ (b : Bool). cond {A = ℕ} b 1 0) (reached-marked (rewired g root p) lawful root (root-reached g root gate p w rule ok used k t)) ∙ sym (new-and p k)
+          go (to-and k l m t) =
+              ap (λ (b : Bool). cond {A = ℕ} b 1 0) (reached-marked (rewired g root p) lawful root (root-reached g root gate p wires ok used k t)) ∙ sym (new-and p k)
 
       rewired-uses : usedGates (rewired g root p) ≡ countMarks (g .net) (marks (rewired g root p)) (size (g .net))
       unfolding usedGates
@@ -175,13 +164,15 @@ module _ (g : Graph) (ok : Lawful g) (root : ℕ) (gate : IsGate (g .net) root) 
           same-count (rewired g root p .net) (g .net) (marks (rewired g root p)) f (size (rewired g root p .net)) ∙ ap (countMarks (g .net) (marks (rewired g root p))) s
 
       -- what is marked without the root and with the proposal's literals, and the gates that the proposal puts there
-      pub finished-uses : usedGates (finished g root p) ≡ countMarks (g .net) (marksBeside g root p) (size (g .net)) + newGates p
-      unfolding finished
-      finished-uses =
-          dropped-uses (rewired g root p) lawful
-          ∙ rewired-uses
-          ∙ but-root (g .net) (marks (rewired g root p)) (marksBeside g root p) root gate same-marks beside-root
-          ∙ ap (λ (n : ℕ). countMarks (g .net) (marksBeside g root p) (size (g .net)) + n) root-mark
+      pub rewired-balance : usedGates (rewired g root p) + leaving g root ≡ usedGates g + (newGates p + heldBack g root p)
+      rewired-balance = omega (
+        arith,
+        used-gates-split,
+        beside-split p low-of,
+        rewired-uses,
+        but-root (g .net) (marks (rewired g root p)) (marksBeside g root p) root gate same-marks (beside-root p low-of),
+        root-mark,
+      )
 
   -- ---- what the two numbers count: the gates at which any test passes that decides just this
 
@@ -195,12 +186,12 @@ module _ (g : Graph) (ok : Lawful g) (root : ℕ) (gate : IsGate (g .net) root) 
           λ r. t v i .1 (marked-reached g v (r .0), λ m. r .1 (x .1 m)),
         ))
 
-    pub held-back-counts : (w : Leaves) (p : Proposal) → Allowed (g .net) root w p
+    pub held-back-counts : (p : Proposal) → ((u : ℕ) → Named p u → u < root)
         → ((v : ℕ) → IsGate (g .net) v → (test v ≡ true) ↔ (From (g .net) p v × (¬ Without g root v)))
         → heldBack g root p ≡ length (keep test (gather (λ k. suc (free (g .net) + k) ∷ []) (size (g .net))))
     unfolding heldBack
-    held-back-counts w p rule t = counted (g .net) (marksBeside g root p) (marksWithout g root) test
-        (λ v i. let z : 0 < v = let h = i .above in omega arith in let x = without-iff v z in let y = beside-iff w p rule v z in (
+    held-back-counts p low t = counted (g .net) (marksBeside g root p) (marksWithout g root) test
+        (λ v i. let z : 0 < v = let h = i .above in omega arith in let x = without-iff v z in let y = beside-iff p low v z in (
           λ e. let r = t v i .0 e in (y .1 (inr (r .0)), λ m. r .1 (x .0 m)),
           λ r. t v i .1 (⊎-elim (λ q. absurd (r .1 (x .1 q))) (λ q. q) (y .0 (r .0)), λ m. r .1 (x .1 m)),
         ))
@@ -217,21 +208,21 @@ module _ (g : Graph) (ok : Lawful g) (root : ℕ) (gate : IsGate (g .net) root) 
       apart-stays (g .net) (marks g) (marksWithout g root) (root - free (g .net))
       (λ v i l m. without-iff v (omega arith) .1 (above-without v (marked-reached g v m) (omega arith))) (size (g .net)) (omega arith) (le-refl _)
 
-  module _ (w : Leaves) (p : Proposal) (rule : Allowed (g .net) root w p) where
+  module _ (p : Proposal) (low : (u : ℕ) → Named p u → u < root) where
     pub held-back-below : heldBack g root p ≡ countApart (g .net) (marksBeside g root p) (marksWithout g root) (root - suc (free (g .net)))
     unfolding heldBack
     held-back-below = let a = gate .above in let b = gate .within in
         apart-stays (g .net) (marksBeside g root p) (marksWithout g root) (root - suc (free (g .net)))
         (λ v i l m. ⊎-elim (λ x. without-iff v (omega arith) .1 x)
-        (λ x. absurd (let q = from-below g root p ok (named-below g root gate p w rule) v x in omega arith)) (beside-iff w p rule v (omega arith) .0 m))
+        (λ x. absurd (let q = from-below g root p ok low v x in omega arith)) (beside-iff p low v (omega arith) .0 m))
         (size (g .net)) (omega arith) (le-refl _)
 
     -- fewer literals hold no more back
-    pub held-back-least : (q : Proposal) → Allowed (g .net) root w q → ((u : ℕ) → 0 < u → Named q u → Named p u) → heldBack g root q ≤ heldBack g root p
+    pub held-back-least : (q : Proposal) → ((u : ℕ) → Named q u → u < root) → ((u : ℕ) → 0 < u → Named q u → Named p u) → heldBack g root q ≤ heldBack g root p
     unfolding heldBack
-    held-back-least q rule′ f = apart-more (g .net) (marksBeside g root q) (marksBeside g root p) (marksWithout g root)
+    held-back-least q low′ f = apart-more (g .net) (marksBeside g root q) (marksBeside g root p) (marksWithout g root)
         (λ v i m. let z : 0 < v = let h = i .above in omega arith in
-        beside-iff w p rule v z .1 (⊎-elim inl (λ x. inr (more v x z)) (beside-iff w q rule′ v z .0 m))) (size (g .net)) (le-refl _)
+        beside-iff p low v z .1 (⊎-elim inl (λ x. inr (more v x z)) (beside-iff q low′ v z .0 m))) (size (g .net)) (le-refl _)
       where
         more : (v : ℕ) → From (g .net) q v → 0 < v → From (g .net) p v
         more = by-from g root q (λ v. 0 < v → From (g .net) p v) (λ u n z. from-named g root p u (f u z n))
@@ -243,34 +234,3 @@ module _ (g : Graph) (ok : Lawful g) (root : ℕ) (gate : IsGate (g .net) root) 
   root-leaves used = apart-has (g .net) (marks g) (marksWithout g root) root gate (reached-marked g ok root used)
       (not-marked (marksWithout g root) root (λ m. without-not-root g root root (without-iff root (let h = gate .above in omega arith) .0 m) refl))
       (size (g .net)) (le-refl _) (gate .within)
-
--- ---- the gain law
-
-module _ (g : Graph) (ok : Lawful g) (root : ℕ) (used : InUse g root) (w : Leaves) (p : Proposal) (rule : Allowed (g .net) root w p) where
-  -- in natural numbers
-  pub gain-balance : usedGates (finished g root p) + leaving g root ≡ usedGates g + (newGates p + heldBack g root p)
-  gain-balance = omega (
-    arith,
-    used-gates-split g ok root (used .is-gate),
-    beside-split g ok root (used .is-gate) w p rule,
-    finished-uses g ok root (used .is-gate) w p rule (used .is-reached),
-  )
-
-  pub gain-law : gain g root p ≡ subℕ (leaving g root) (newGates p + heldBack g root p)
-  unfolding gain
-  gain-law = same-difference (usedGates g) (usedGates (finished g root p)) (leaving g root) (newGates p + heldBack g root p) gain-balance
-
-  pub gain-iff-more-leave : (atLeastOne (gain g root p) ≡ true) ↔ (newGates p + heldBack g root p < leaving g root)
-  gain-iff-more-leave = (λ e. omega (arith, gain-balance, gain-iff g root p .0 e), λ l. gain-iff g root p .1 (omega (arith, gain-balance)))
-
-  -- the gain is at most what goes less what is put there: a bound that asks nothing of the literals
-  pub gain-bound : (n : ℕ) → gain g root p ≡ pos n → n + newGates p ≤ leaving g root
-  gain-bound n e = let h = difference (leaving g root) (newGates p + heldBack g root p) n (sym gain-law ∙ e) in omega arith
-
-  -- the same of the numbers of gates, whatever the sign
-  pub gain-at-most : usedGates g + newGates p ≤ usedGates (finished g root p) + leaving g root
-  gain-at-most = omega (arith, gain-balance)
-
-  -- an AND gains only where a gate besides the root goes
-  pub and-gain-needs-two : p .kind ≡ 1 → atLeastOne (gain g root p) ≡ true → 2 ≤ leaving g root
-  and-gain-needs-two k e = omega (arith, gain-iff-more-leave .0 e, new-and p k)

@@ -15,9 +15,8 @@ use Rattle.graph.proofs.DropKeeps.{dropped-keeps-outputs}
 use Rattle.window.specs.LeafRule.{picked}
 use Rattle.window.proofs.Coverage.{covered-iff}
 use Rattle.window.proofs.LeafRule.{picked-well-set, picked-cuts}
-use Rattle.replace.specs.Rewire.{rewired, finished}
-use Rattle.replace.proofs.Rewire.{finished-free, rewired-lawful, finished-well-formed}
-use Rattle.replace.proofs.Replacement.{Fits, finished-keeps-outputs}
+use Rattle.replace.specs.Rewire.{finished}
+use Rattle.replace.proofs.Finished.{finished-free, finished-all-reached, finished-well-formed, Fits, finished-keeps-outputs}
 use Rattle.replace.proofs.Gain.{falls-by-gain}
 use Rattle.listing.specs.Listing.{proposalOf}
 use Rattle.run.specs.Run.{step, End, stepsFrom, run, NoneAt, Step, Steps, ends, goes-on}
@@ -46,10 +45,10 @@ module _ (g h : Graph) (ready : Ready g) (s : Step g h) where
 
   finished-ready : Ready (finished g (s .root) (proposalOf (s .best)))
   finished-ready = record {
-    well-formed = finished-well-formed g (ready .well-formed) (s .root) (s .is-gate) (picked (g .net) (s .root)) (proposalOf (s .best)) (fits .rule);
-    all-reached = unfold finished in
-        dropped-all-reached (rewired g (s .root) (proposalOf (s .best)))
-        (rewired-lawful g lawful (s .root) (s .is-gate) (picked (g .net) (s .root)) (proposalOf (s .best)) (fits .rule));
+    well-formed = finished-well-formed g (ready .well-formed) (s .root) (s .is-gate) (picked (g .net) (s .root)) (proposalOf (s .best)) (fits .rule)
+        (let h = best-good s in
+        omega (arith, falls-by-gain g (s .root) (proposalOf (s .best)) (s .best .gain) (best-good s .gain-is) (best-good s .at-least-one)));
+    all-reached = finished-all-reached g lawful (s .root) (s .is-gate) (picked (g .net) (s .root)) (proposalOf (s .best)) (fits .rule);
   }
 
   pub step-ready : Ready h
