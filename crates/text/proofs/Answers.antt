@@ -19,6 +19,8 @@ a-number = record {
   row = N.the-row;
   mir = N′.mir;
   typed = λ 𝓤 H A W r v is. LL.lawful N.the-type N′.the-laws 𝓤 H A W .typed r _ is .0;
+  lowered = N′.lowered;
+  tells = LL.tells N.the-type N′.the-laws;
   right = λ t at r. numberStep t r ≡ number (drop at t);
 }
 
@@ -27,5 +29,7 @@ the-byte b = record {
   row = B.the-row;
   mir = B′.mir;
   typed = λ 𝓤 H A W r v is. LL.lawful B.the-type B′.the-laws 𝓤 H A W .typed r _ is .0;
+  lowered = B′.lowered;
+  tells = LL.tells B.the-type B′.the-laws;
   right = λ t at r. byteStep t r ≡ after (b ∷ []) (drop at t);
 }

@@ -15,10 +15,12 @@ pub mod Refusals
 pub mod Walk
 pub mod Answers
 pub mod Thin
-pub mod Made
+pub mod Elem
+pub mod Asked
 -- what the code's answers mean: reading
 pub mod Runs
 pub mod Steps
+pub mod Lined
 pub mod FirstLine
 pub mod Sections
 pub mod BySection

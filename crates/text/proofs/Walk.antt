@@ -25,7 +25,7 @@ use contract.Lifetimes.{Lfts, Shares, AllOutlive}
 use contract.Monad.{fact}
 use contract.Running.{Running, tables, tablesOf}
 use denote.RattleType.{RattleType, flat}
-use denote.Laws.{Is, shows, Are, Ises, Spells, valss, Tellss}
+use denote.Laws.{Is, shows, Are, Ises, Spells, valss, Tells, Tellss}
 use denote.Builtin.{u8, usize}
 use denote.Ref.{now}
 use denote.Signature.{plain, shrSliceOf, namedLft, typesAt}
@@ -46,6 +46,8 @@ pub record Answer : Type 2 where
   pub row : RattleType
   pub mir : Ty
   pub typed : {M : Type 1} (𝓤 : URA M) (H : Heap 𝓤) (A : Atoms 𝓤) → Given 𝓤 H A → (r : row .Denot) (v : Val) → Is row r (v ∷ []) → Holds (hasTy mir v) × WT v
+  pub lowered : row .Denot → Val
+  pub tells : Tells row (Is row) (λ r. lowered r ∷ [])
   pub right : List ℕ → ℕ → row .Denot → Type 0
 
 -- ---- a reader's type, over a signature's lifetimes

@@ -16,12 +16,13 @@ use Rattle.text.specs.declared.bytes.ByteStep.{ByteStep}
 use Rattle.text.specs.declared.header.Header.{Header}
 use Rattle.text.specs.declared.header.HeaderLine.{HeaderLine}
 use Rattle.text.specs.declared.line.GateLine.{GateLine}
+use Rattle.text.specs.declared.line.LineStep.{LineStep}
 use Rattle.text.specs.declared.line.LiteralLine.{LiteralLine}
 use Rattle.text.specs.declared.number.NumberStep.{NumberStep}
 use Rattle.text.specs.declared.section.Section.{Section}
 use Rattle.text.specs.declared.verdict.Verdict.{Verdict}
-use Rattle.text.specs.Number.{isDigit, digitRun, valueFrom, mostNumber, Front, front, number}
-use Rattle.text.specs.Line.{_>>=_, after, lineOf}
+use Rattle.text.specs.Number.{isDigit, digitRun, valueFrom, mostNumber, Front, front}
+use Rattle.text.specs.Line.{lineOf}
 use Rattle.text.specs.Reading.{Needed, Reading, refuses, yields}
 
 -- ---- steps: what is found at a place, and the text from the next place on
@@ -31,6 +32,10 @@ numberStep t s = cond (s .found) (some (front (s .value) (drop (s .next) t))) no
 
 unfoldable pub byteStep : List ℕ → ByteStep → Option (List ℕ)
 byteStep t s = cond (s .found) (some (drop (s .next) t)) none
+
+-- a line's numbers, where these are what is lent at the end
+unfoldable pub lineStep : List ℕ → List ℕ → LineStep → Option (Front (List ℕ))
+lineStep t ns s = cond (s .found) (some (front ns (drop (s .next) t))) none
 
 unfoldable pub literalStep : List ℕ → LiteralLine → Option (Front (List ℕ))
 literalStep t s = cond (s .found) (some (front (s .literal .0 ∷ []) (drop (s .next) t))) none
@@ -47,7 +52,7 @@ headerNumbers h = h .highest ∷ h .inputs ∷ h .latches ∷ h .outputs ∷ h .
 unfoldable pub headerStep : List ℕ → HeaderLine → Option (Front (List ℕ))
 headerStep t s = cond (s .found) (some (front (headerNumbers (s .header)) (drop (s .next) t))) none
 
--- ---- pieces of a number and of a line
+-- ---- pieces of a number
 
 -- the digit at the front of a text; 10 where there is none
 unfoldable pub digitAt : List ℕ → ℕ
@@ -63,14 +68,6 @@ runValue t =
       | [] ↦ none
       | d ∷ ds ↦ cond (leb (valueFrom 0 (d ∷ ds)) mostNumber) (some (front (valueFrom 0 (d ∷ ds)) (r .rest))) none
     ]
-
--- a number, and the byte b after it
-unfoldable pub numberThen : ℕ → List ℕ → Option (Front ℕ)
-unfolding number after
-numberThen b t = do
-  x ← number t
-  t′ ← after (b ∷ []) (x .rest)
-  some (front (x .got) t′)
 
 -- ---- verdicts
 

@@ -8,9 +8,7 @@ ghost use Rattle.text.specs.Reading.{headerLine, headerRefusals};
 ghost use Rattle.text.specs.Places.{headerStep, byteStep, verdictIs};
 use crate::bytes::ByteStep;
 use crate::bytes::byte_at;
-use crate::line::number_and_end;
-use crate::line::number_and_space;
-use crate::reader::space_from;
+use crate::line::line_of;
 use crate::verdict::Verdict;
 use graph::Refusal;
 
@@ -69,7 +67,7 @@ fn aag_at_front(text: &[u8]) -> ByteStep
     if !aag.found {
         return aag;
     }
-    space_from(text, aag.next)
+    byte_at(text, aag.next, b' ')
 }
 
 pub(crate) fn header_line(text: &[u8]) -> HeaderLine
@@ -79,33 +77,18 @@ pub(crate) fn header_line(text: &[u8]) -> HeaderLine
     if !start.found {
         return no_header_line();
     }
-    let highest = number_and_space(text, start.next);
-    if !highest.found {
-        return no_header_line();
-    }
-    let inputs = number_and_space(text, highest.next);
-    if !inputs.found {
-        return no_header_line();
-    }
-    let latches = number_and_space(text, inputs.next);
-    if !latches.found {
-        return no_header_line();
-    }
-    let outputs = number_and_space(text, latches.next);
-    if !outputs.found {
-        return no_header_line();
-    }
-    let gates = number_and_end(text, outputs.next);
+    let mut numbers: [u32; 5] = [0; 5];
+    let line = line_of(text, start.next, &mut numbers);
     HeaderLine {
-        found: gates.found,
+        found: line.found,
         header: Header {
-            highest: highest.value,
-            inputs: inputs.value,
-            latches: latches.value,
-            outputs: outputs.value,
-            gates: gates.value,
+            highest: numbers[0],
+            inputs: numbers[1],
+            latches: numbers[2],
+            outputs: numbers[3],
+            gates: numbers[4],
         },
-        next: gates.next,
+        next: line.next,
     }
 }
 

@@ -1,44 +1,44 @@
 // Lines of numbers: one space between, one line feed at the end.
 ghost use mathlib.Core.Path.{_≡_};
-ghost use mathlib.Core.Bool.{false};
-ghost use lib.ListN.{drop};
-ghost use Rattle.text.specs.Line.{space, lineFeed, lineOf};
-ghost use Rattle.text.specs.Places.{numberStep, numberThen, literalStep, gateStep};
-use crate::number::NumberStep;
-use crate::reader::line_end_from;
-use crate::reader::number_from;
-use crate::reader::space_from;
+ghost use lib.ListN.{length, drop};
+ghost use Rattle.text.specs.Line.{lineOf};
+ghost use Rattle.text.specs.Places.{lineStep, literalStep, gateStep};
+use crate::reader::TextReader;
 use graph::Lit;
 
-// A number and the space after it.
-pub(crate) fn number_and_space(text: &[u8], at: usize) -> NumberStep
-    ensures { λ r. ⌜ numberStep (now (text .entry)) r ≡ numberThen space (drop at (now (text .entry))) ⌝ }
-{
-    let number = number_from(text, at);
-    if !number.found {
-        return number;
-    }
-    let after = space_from(text, number.next);
-    NumberStep {
-        found: after.found,
-        value: number.value,
-        next: after.next,
-    }
+// That a line of numbers stands at a place, and the place after it.
+pub struct LineStep {
+    pub found: bool,
+    pub next: usize,
 }
 
-// A number and the line feed after it.
-pub(crate) fn number_and_end(text: &[u8], at: usize) -> NumberStep
-    ensures { λ r. ⌜ numberStep (now (text .entry)) r ≡ numberThen lineFeed (drop at (now (text .entry))) ⌝ }
+// Reads a line of as many numbers as are lent, by one reader that is moved along. Where none stands there, the numbers are of no use.
+pub(crate) fn line_of(text: &[u8], at: usize, numbers: &mut [u32]) -> LineStep
+    ensures { λ r. ⌜ lineStep (now (text .entry)) (now (numbers .exit)) r ≡ lineOf (length (now (numbers .entry))) (drop at (now (text .entry))) ⌝ }
 {
-    let number = number_from(text, at);
-    if !number.found {
-        return number;
+    let mut reader = TextReader { text, at };
+    let mut k: usize = 0;
+    while k < numbers.len() {
+        let number = reader.number();
+        if !number.found {
+            break;
+        }
+        reader.at = number.next;
+        let after = if k + 1 < numbers.len() {
+            reader.space()
+        } else {
+            reader.line_end()
+        };
+        if !after.found {
+            break;
+        }
+        reader.at = after.next;
+        numbers[k] = number.value;
+        k += 1;
     }
-    let after = line_end_from(text, number.next);
-    NumberStep {
-        found: after.found,
-        value: number.value,
-        next: after.next,
+    LineStep {
+        found: k == numbers.len(),
+        next: reader.at,
     }
 }
 
@@ -52,11 +52,12 @@ pub struct LiteralLine {
 pub(crate) fn literal_line(text: &[u8], at: usize) -> LiteralLine
     ensures { λ r. ⌜ literalStep (now (text .entry)) r ≡ lineOf 1 (drop at (now (text .entry))) ⌝ }
 {
-    let number = number_and_end(text, at);
+    let mut numbers: [u32; 1] = [0; 1];
+    let line = line_of(text, at, &mut numbers);
     LiteralLine {
-        found: number.found,
-        literal: Lit(number.value),
-        next: number.next,
+        found: line.found,
+        literal: Lit(numbers[0]),
+        next: line.next,
     }
 }
 
@@ -72,32 +73,13 @@ pub struct GateLine {
 pub(crate) fn gate_line(text: &[u8], at: usize) -> GateLine
     ensures { λ r. ⌜ gateStep (now (text .entry)) r ≡ lineOf 3 (drop at (now (text .entry))) ⌝ }
 {
-    let left = number_and_space(text, at);
-    if !left.found {
-        return no_gate_line();
-    }
-    let one = number_and_space(text, left.next);
-    if !one.found {
-        return no_gate_line();
-    }
-    let other = number_and_end(text, one.next);
+    let mut numbers: [u32; 3] = [0; 3];
+    let line = line_of(text, at, &mut numbers);
     GateLine {
-        found: other.found,
-        left: Lit(left.value),
-        one: Lit(one.value),
-        other: Lit(other.value),
-        next: other.next,
-    }
-}
-
-fn no_gate_line() -> GateLine
-    ensures { λ r. ⌜ r .found ≡ false ⌝ }
-{
-    GateLine {
-        found: false,
-        left: Lit(0),
-        one: Lit(0),
-        other: Lit(0),
-        next: 0,
+        found: line.found,
+        left: Lit(numbers[0]),
+        one: Lit(numbers[1]),
+        other: Lit(numbers[2]),
+        next: line.next,
     }
 }

@@ -1,5 +1,5 @@
 // The text reader: it reads on from its place in the lent text and copies nothing.
-// It is made where something is read; what comes back holds the next place.
+// A line is read by one reader: what it answers holds the next place, and it is moved there.
 ghost use mathlib.Core.Path.{_≡_};
 ghost use mathlib.Core.List.{[], _∷_};
 ghost use lib.ListN.{drop};
@@ -35,22 +35,4 @@ impl<'a> TextReader<'a> {
     {
         line_end_at(self.text, self.at)
     }
-}
-
-pub(crate) fn number_from(text: &[u8], at: usize) -> NumberStep
-    ensures { λ r. ⌜ numberStep (now (text .entry)) r ≡ number (drop at (now (text .entry))) ⌝ }
-{
-    TextReader { text, at }.number()
-}
-
-pub(crate) fn space_from(text: &[u8], at: usize) -> ByteStep
-    ensures { λ r. ⌜ byteStep (now (text .entry)) r ≡ after (space ∷ []) (drop at (now (text .entry))) ⌝ }
-{
-    TextReader { text, at }.space()
-}
-
-pub(crate) fn line_end_from(text: &[u8], at: usize) -> ByteStep
-    ensures { λ r. ⌜ byteStep (now (text .entry)) r ≡ after (lineFeed ∷ []) (drop at (now (text .entry))) ⌝ }
-{
-    TextReader { text, at }.line_end()
 }

@@ -41,15 +41,15 @@ returns-3 c =
     ∙ bytes-go-on _ _ _ _ _ _ (s2 .before .before .byte-at2 .ensures) (not-false _ (s2 .if2 .left))
     ∙ bytes-stop _ _ _ _ _ _ (c .before .before .byte-at3 .ensures) stop)
 
-space-from-requires : tie.Need-space-from-requires
-space-from-requires c κs = search needs
+byte-at-requires-4 : tie.Need-byte-at-requires-4
+byte-at-requires-4 c κs = search needs
 
 returns-4 : tie.Need-returns-4
 returns-4 c =
     let s3 = c .before in
     let s2 = s3 .before .before .before in
     let s1 = s2 .before .before .before in
-    c .space-from .ensures
+    c .byte-at4 .ensures
     ∙ sym
     (bytes-go-on _ _ _ _ _ _ (s1 .before .before .byte-at .ensures) (not-false _ (s1 .if1 .left))
     ∙ bytes-go-on _ _ _ _ _ _ (s2 .before .before .byte-at2 .ensures) (not-false _ (s2 .if2 .left))
@@ -65,5 +65,5 @@ aag-at-front-spec =
     returns-2
     byte-at-requires-3
     returns-3
-    space-from-requires
+    byte-at-requires-4
     returns-4)

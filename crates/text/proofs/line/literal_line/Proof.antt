@@ -1,18 +1,25 @@
--- `text::line::literal_line` meets its contract: the line is its number and the line feed.
+-- `text::line::literal_line` meets its contract: its numbers are those that `line_of` stored.
 -- Assumes nothing.
-use mathlib.Core.Path.{sym}
-use borrow.Author.Needs.{needs}
+use mathlib.Core.Path.{_∙_}
 use Rattle.text.specs.Places.{literalStep}
-use Rattle.text.proofs.Steps.{line-ends}
+use Rattle.text.proofs.Lined.{line-picked}
+use borrow.Author.Needs.{needs}
 use Rattle.text.proofs.line.literal_line.Statement.{statement}
 use Rattle.text.proofs.line.literal_line.Tie as tie
 
-number-and-end-requires : tie.Need-number-and-end-requires
-number-and-end-requires c κs = search needs
+slice-aggregate-line-of : tie.Need-slice-aggregate-line-of
+slice-aggregate-line-of c = search needs
+
+line-of-requires : tie.Need-line-of-requires
+line-of-requires c κs = search needs
+
+array-read-t9 : tie.Need-array-read-t9
+array-read-t9 c = search needs
 
 returns : tie.Need-returns
 unfolding literalStep
-returns c = sym (line-ends _ _ _ (c .number-and-end .ensures))
+returns c = line-picked _ _ _ 1 (c .before .line-of .kept .1 .1 .0) ∙ c .before .line-of .ensures
 
 pub literal-line-spec : {M : Type 1} → statement M
-literal-line-spec = tie.close (tie.spec number-and-end-requires returns)
+literal-line-spec =
+    tie.close (tie.spec slice-aggregate-line-of line-of-requires array-read-t9 returns)
