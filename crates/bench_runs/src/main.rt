@@ -34,7 +34,7 @@ fn say_words(words: &[u32]) {
 fn reads_into(name: &[u8], text: &[u8], gates: &mut [u32], outputs: &mut [u32]) {
     say(name);
     say(b":");
-    match text::read(text, gates, outputs) {
+    match reader::read(text, gates, outputs) {
         ReadText::Refused(refusal) => say_refusal(refusal),
         ReadText::Graph {
             inputs,
@@ -108,7 +108,7 @@ fn read_rooms() {
 // The text of nothing, with a rest of `c` that fills what was lent.
 fn reads_filled(name: &[u8], bytes: &mut [u8]) {
     let none = [0u32; 0];
-    text::write(0, &none, &none, bytes);
+    writer::write(0, &none, &none, bytes);
     reads(name, bytes);
 }
 
@@ -123,7 +123,7 @@ fn read_long() {
 fn writes_into(name: &[u8], inputs: usize, gates: &[u32], outputs: &[u32], bytes: &mut [u8]) {
     say(name);
     say(b":");
-    match text::write(inputs, gates, outputs, bytes) {
+    match writer::write(inputs, gates, outputs, bytes) {
         WrittenText::Refused(refusal) => say_refusal(refusal),
         WrittenText::Bytes(length) => {
             say_number(0);

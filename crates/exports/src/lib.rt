@@ -20,7 +20,7 @@ pub extern "C" fn nenquilco_read(
         ((reads (now (text .entry)) (now (gates .entry)) (now (outputs .entry))) .lent) (now (i .entry) ∷ now (a .entry) ∷ now (o .entry) ∷ [])
         r (now (i .exit) ∷ now (a .exit) ∷ now (o .exit) ∷ []) (buffersOf (now (gates .exit)) (now (outputs .exit))) ⌝ }
 {
-    match text::read(text, gates, outputs) {
+    match reader::read(text, gates, outputs) {
         ReadText::Refused(refusal) => refusal.number(),
         ReadText::Graph {
             inputs,
@@ -47,7 +47,7 @@ pub extern "C" fn nenquilco_write(
     ensures { λ r. ⌜ Told (writtenNumbers inputs (now (gates .entry)) (now (outputs .entry)) (now (bytes .entry)))
         ((writes inputs (now (gates .entry)) (now (outputs .entry)) (now (bytes .entry))) .lent) (now (n .entry) ∷ []) r (now (n .exit) ∷ []) (now (bytes .exit)) ⌝ }
 {
-    match text::write(inputs, gates, outputs, bytes) {
+    match writer::write(inputs, gates, outputs, bytes) {
         WrittenText::Refused(refusal) => refusal.number(),
         WrittenText::Bytes(length) => {
             *n = length;

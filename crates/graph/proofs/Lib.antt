@@ -14,4 +14,6 @@ pub mod Settles
 pub mod Rows
 pub mod Tests
 pub mod EvaluateRefusals
-pub mod Checks
+pub mod Gathered
+pub mod Laying
+pub mod StoredWords

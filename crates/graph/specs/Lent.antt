@@ -1,10 +1,10 @@
 -- Lent lists: the room that a call needs, and what it leaves behind.
 -- Assumes nothing.
-use Prim.Native.Nat.{ℕ, _<_}
+use Prim.Native.Nat.{ℕ, _+_, _<_}
 use mathlib.Core.Bool.{Bool, _||_}
 use mathlib.Core.List.{List, _++_}
 use lib.Dec.{ltb}
-use lib.ListN.{length, drop}
+use lib.ListN.{length, take, drop}
 use Rattle.graph.specs.Graph.{Graph}
 
 -- the lent list has fewer places than needed
@@ -14,6 +14,10 @@ short need lent = ltb (length lent) need
 -- the lent list with xs in its first places; places past them keep their contents
 unfoldable pub written : {A : Type 0} → List A → List A → List A
 written xs lent = xs ++ drop (length xs) lent
+
+-- the same from place `at` on
+unfoldable pub laid : ℕ → List ℕ → List ℕ → List ℕ
+laid at xs lent = take at lent ++ xs ++ drop (at + length xs) lent
 
 -- two lists lent for a graph
 pub record Buffers : Type 0 where
@@ -33,10 +37,10 @@ pub data NoRoomFor (g : Graph) (b : Buffers) : Type 0 where
   few-gate-words : length (b .gates) < length (g .net .gates) → NoRoomFor g b
   few-output-words : length (b .outputs) < length (g .outputs) → NoRoomFor g b
 
--- the two lists with these words written
-unfoldable pub storedIn : List ℕ → List ℕ → Buffers → Buffers
+-- the two lists with the graph's words written
+unfoldable pub storedIn : Graph → Buffers → Buffers
 unfolding written
-storedIn gates outputs b = record { gates = written gates (b .gates); outputs = written outputs (b .outputs) }
+storedIn g b = record { gates = written (g .net .gates) (b .gates); outputs = written (g .outputs) (b .outputs) }
 
 -- what a call answers, and what its lent lists hold afterwards
 pub record Effect (A L : Type 0) : Type 0 where

@@ -25,6 +25,7 @@ use Rattle.graph.specs.declared.refusal.Refusal.the-variants.{
   OrderLost,
   NoRoom,
 }
+use Rattle.graph.specs.declared.verdict.Verdict.{Verdict}
 
 -- document 01's numbers
 abbrev pub numberOf : Refusal → ℕ
@@ -58,6 +59,11 @@ b ⇒ r = record { holds = b; refusal = r }
 unfoldable pub firstRefusal : List Row → Option Refusal
 firstRefusal [] = none
 firstRefusal (row ∷ rows) = cond (row .holds) (some (row .refusal)) (firstRefusal rows)
+
+-- what a verdict says: none, or the refusal that is given
+unfoldable pub verdictIs : Verdict → Option Refusal
+verdictIs (Verdict.Fine) = none
+verdictIs (Verdict.Refused r) = some r
 
 -- an answer in document 01's terms: 0 and the values, or a refusal's number and what comes with it
 pub record Outcome : Type 0 where

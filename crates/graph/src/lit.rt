@@ -1,5 +1,6 @@
 // A literal and a variable number are kept apart throughout.
 ghost use mathlib.Core.Path.{_≡_};
+ghost use Prim.Native.Nat.{_*_, _<_, _^_};
 ghost use Rattle.graph.specs.Literal.{varOf, isOdd, flip};
 
 // A reference to a variable, plain or complemented: 2v is variable v, 2v + 1 its complement.
@@ -15,7 +16,7 @@ impl Lit {
         Var(self.0 / 2)
     }
 
-    pub fn turned(self) -> bool
+    pub fn is_complement(self) -> bool
         ensures { λ r. ⌜ r ≡ isOdd (self .0) ⌝ }
     {
         self.0 % 2 == 1
@@ -35,5 +36,13 @@ impl Var {
         ensures { λ r. ⌜ r ≡ self .0 ⌝ }
     {
         self.0 as usize
+    }
+
+    // This variable's literal that is no complement.
+    pub fn plain(self) -> Lit
+        requires { ⌜ self .0 < 2 ^ 31 ⌝ }
+        ensures { λ r. ⌜ r .0 ≡ 2 * self .0 ⌝ }
+    {
+        Lit(2 * self.0)
     }
 }

@@ -13,11 +13,11 @@ use Rattle.graph.proofs.Members.{none-in, in-same, in-keep, keep-from, map-from
 use Rattle.graph.proofs.Lists.{and-left, and-right, and-both}
 use Rattle.window.specs.declared.Leaves.{Leaves}
 use Rattle.window.specs.Table.{sameTable}
-use Rattle.replace.specs.declared.Proposal.{Proposal}
-use Rattle.replace.specs.Proposal.{allowed}
-use Rattle.replace.specs.Rewire.{gain, atLeastOne}
-use Rattle.replace.specs.Calls.{equalTables}
-use Rattle.replace.proofs.Allowed.{allowed-iff}
+use Rattle.replacement.specs.declared.Proposal.{Proposal}
+use Rattle.replacement.specs.Proposal.{allowed}
+use Rattle.replacement.specs.Rewire.{gain, atLeastOne}
+use Rattle.replacement.specs.Calls.{equalTables}
+use Rattle.replacement.proofs.Allowed.{allowed-iff}
 use Rattle.listing.specs.declared.Candidate.{Candidate}
 use Rattle.listing.specs.Listing.{candidates, good, candidateOf, listed, proposalOf, GoodRecord, Before, IsTheList}
 use Rattle.listing.proofs.Each.{Each}

@@ -9,11 +9,11 @@ use lib.IntN.{pos, natAbs}
 use Rattle.graph.specs.Lists.{gather, keep, _∈_}
 use Rattle.graph.specs.Graph.{Graph}
 use Rattle.window.specs.declared.Leaves.{Leaves}
-use Rattle.replace.specs.declared.Proposal.{Proposal}
+use Rattle.replacement.specs.declared.Proposal.{Proposal}
 use Rattle.window.specs.Table.{table}
-use Rattle.replace.specs.Proposal.{literal, andGate, allowed, Allowed, proposedTable}
-use Rattle.replace.specs.Rewire.{gain, atLeastOne}
-use Rattle.replace.specs.Calls.{equalTables}
+use Rattle.replacement.specs.Proposal.{literal, andGate, allowed, Allowed, proposedTable}
+use Rattle.replacement.specs.Rewire.{gain, atLeastOne}
+use Rattle.replacement.specs.Calls.{equalTables}
 use Rattle.listing.specs.declared.Candidate.{Candidate}
 
 -- kind 0 by literal, then kind 1 by (a, b, c), ascending, over every literal below the root's

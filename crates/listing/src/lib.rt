@@ -3,7 +3,7 @@ ghost use mathlib.Core.Path.{_≡_};
 ghost use Rattle.listing.specs.Listing.{proposalOf};
 use graph::Lit;
 use graph::Refusal;
-use replace::Proposal;
+use replacement::Proposal;
 
 // A record of the list, in plain words as lent memory holds them.
 pub struct Candidate {

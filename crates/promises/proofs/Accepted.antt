@@ -39,11 +39,11 @@ use Rattle.window.specs.LeafRule.{picked}
 use Rattle.window.specs.Calls.{RootGiven, rootRefusals, pickAnswer, verdictOutcome, pickOutcome, windowRefusals, tableAnswer, tableOutcome}
 use Rattle.window.proofs.Refusals.{pick-answers}
 use Rattle.window.proofs.LeafRule.{picked-well-set, picked-cuts}
-use Rattle.replace.specs.declared.Proposal.{Proposal}
-use Rattle.replace.specs.declared.Applied.{Applied}
-use Rattle.replace.specs.Rewire.{finished}
-use Rattle.replace.specs.Calls.{applyEffect, appliedOutcome}
-use Rattle.replace.proofs.Refusals.{apply-none-given}
+use Rattle.replacement.specs.declared.Proposal.{Proposal}
+use Rattle.replacement.specs.declared.Applied.{Applied}
+use Rattle.replacement.specs.Rewire.{finished}
+use Rattle.replacement.specs.Calls.{applyEffect, appliedOutcome}
+use Rattle.replacement.proofs.Refusals.{apply-none-given}
 use Rattle.listing.specs.declared.Candidate.{Candidate}
 use Rattle.listing.specs.declared.Listed.{Listed}
 use Rattle.listing.specs.Listing.{listed, IsTheList}

@@ -16,9 +16,9 @@ use Rattle.text.proofs.Refusals.{read-answers, read-leaves, write-answers, writ
 use Rattle.window.specs.declared.Leaves.{Leaves}
 use Rattle.window.specs.Calls.{RootGiven, pickAnswer, pickOutcome, WindowGiven, tableAnswer, tableOutcome}
 use Rattle.window.proofs.Refusals.{pick-answers, table-answers}
-use Rattle.replace.specs.declared.Proposal.{Proposal}
-use Rattle.replace.specs.Calls.{ApplyGiven, applyEffect, appliedOutcome}
-use Rattle.replace.proofs.Refusals.{apply-answers, apply-leaves, order-lost-never-given}
+use Rattle.replacement.specs.declared.Proposal.{Proposal}
+use Rattle.replacement.specs.Calls.{ApplyGiven, applyEffect, appliedOutcome}
+use Rattle.replacement.proofs.Refusals.{apply-answers, apply-leaves, order-lost-never-given}
 use Rattle.listing.specs.declared.Candidate.{Candidate}
 use Rattle.listing.specs.Listing.{listed}
 use Rattle.listing.specs.Calls.{ListGiven, listEffect, listedOutcome}

@@ -22,11 +22,11 @@ use Rattle.text.proofs.Reading.{reading-iff}
 use Rattle.text.proofs.RoundTrip.{text-of-short, round-trip}
 use Rattle.window.specs.declared.Leaves.{Leaves}
 use Rattle.window.proofs.Coverage.{covered-iff}
-use Rattle.replace.specs.declared.Proposal.{Proposal}
-use Rattle.replace.specs.Rewire.{finished}
-use Rattle.replace.specs.Calls.{applyEffect, appliedOutcome}
-use Rattle.replace.proofs.Finished.{finished-free, finished-all-reached, finished-well-formed, Fits, finished-keeps-outputs}
-use Rattle.replace.proofs.Refusals.{Accepted, apply-accepted}
+use Rattle.replacement.specs.declared.Proposal.{Proposal}
+use Rattle.replacement.specs.Rewire.{finished}
+use Rattle.replacement.specs.Calls.{applyEffect, appliedOutcome}
+use Rattle.replacement.proofs.Finished.{finished-free, finished-all-reached, finished-well-formed, Fits, finished-keeps-outputs}
+use Rattle.replacement.proofs.Refusals.{Accepted, apply-accepted}
 use Rattle.run.specs.Run.{run}
 use Rattle.run.proofs.Run.{run-keeps-inputs, run-keeps-outputs, run-well-formed, run-all-reached}
 use Rattle.promises.specs.Promises.{Keeps}

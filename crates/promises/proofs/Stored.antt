@@ -19,7 +19,7 @@ module _ {A : Type 0} where
   unfolding written
   stored-written xs lent = record { first-places = take-append-seam xs _; past-them = drop-append-seam xs _ }
 
-pub holds-stored : (h : Graph) (b : Buffers) → WellFormed h → Holds h b (storedIn (h .net .gates) (h .outputs) b)
+pub holds-stored : (h : Graph) (b : Buffers) → WellFormed h → Holds h b (storedIn h b)
 unfolding storedIn
 holds-stored h b ok = record {
   gate-words = let e = ok .lawful .even in omega arith;

@@ -9,7 +9,7 @@ use Rattle.text.specs.States.{textOf}
 use Rattle.text.specs.Reading.{refuses, yields, reading}
 use Rattle.window.specs.Leaves.{leavesOf}
 use Rattle.window.specs.LeafRule.{picked}
-use Rattle.replace.specs.Proposal.{literal, andGate}
+use Rattle.replacement.specs.Proposal.{literal, andGate}
 use Rattle.run.specs.Run.{run}
 use Rattle.promises.specs.Calls.{Row, _gives_, buffers, readCall, pickCall, tableCall, listCall, applyCall, runCall}
 

@@ -12,8 +12,8 @@ use Rattle.graph.specs.Evaluate.{evaluateEffect, evaluatedOutcome}
 use Rattle.text.specs.Calls.{readEffect, readOutcome, writeEffect, writtenOutcome}
 use Rattle.window.specs.declared.Leaves.{Leaves}
 use Rattle.window.specs.Calls.{pickAnswer, pickOutcome, tableAnswer, tableOutcome}
-use Rattle.replace.specs.declared.Proposal.{Proposal}
-use Rattle.replace.specs.Calls.{applyEffect, appliedOutcome}
+use Rattle.replacement.specs.declared.Proposal.{Proposal}
+use Rattle.replacement.specs.Calls.{applyEffect, appliedOutcome}
 use Rattle.listing.specs.declared.Candidate.{Candidate}
 use Rattle.listing.specs.Listing.{fields}
 use Rattle.listing.specs.Calls.{listEffect, listedOutcome}

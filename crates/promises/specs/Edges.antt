@@ -6,7 +6,7 @@ use mathlib.Core.List.{List, [], _∷_, _++_}
 use lib.ListN.{replicate}
 use Rattle.graph.specs.Graph.{graphOf}
 use Rattle.window.specs.Leaves.{variables, leavesOf}
-use Rattle.replace.specs.Proposal.{literal}
+use Rattle.replacement.specs.Proposal.{literal}
 use Rattle.promises.specs.Calls.{Row, _gives_, buffers, readCall, writeCall, evaluateCall, pickCall, tableCall, applyCall}
 use Rattle.promises.specs.Bench.{bytes, e1}
 

@@ -23,9 +23,9 @@ pub fn write_then_read(
     ensures { λ r. ⌜ WrittenAgain (graphOf inputs (now (gates .entry)) (now (outputs .entry))) (now (bytes .entry))
         (buffersOf (now (words .entry)) (now (results .entry))) r (buffersOf (now (words .exit)) (now (results .exit))) ⌝ }
 {
-    match text::write(inputs, gates, outputs, bytes) {
+    match writer::write(inputs, gates, outputs, bytes) {
         WrittenText::Refused(refusal) => ReadText::Refused(refusal),
-        WrittenText::Bytes(length) => text::read(&bytes[..length], words, results),
+        WrittenText::Bytes(length) => reader::read(&bytes[..length], words, results),
     }
 }
 
@@ -48,7 +48,7 @@ pub fn read_twice(
     ensures { λ r. ⌜ SameAgain (buffersOf (now (gates .entry)) (now (outputs .entry))) (r .first) (buffersOf (now (gates .exit)) (now (outputs .exit)))
         (buffersOf (now (words .entry)) (now (results .entry))) (r .second) (buffersOf (now (words .exit)) (now (results .exit))) ⌝ }
 {
-    let first = text::read(text, gates, outputs);
-    let second = text::read(text, words, results);
+    let first = reader::read(text, gates, outputs);
+    let second = reader::read(text, words, results);
     TwoAnswers { first, second }
 }

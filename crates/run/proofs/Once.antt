@@ -9,7 +9,7 @@ use Rattle.graph.specs.Graph.{Graph, WellFormed}
 use Rattle.graph.specs.Drop.{dropped}
 use Rattle.graph.proofs.Members.{in-right}
 use Rattle.window.specs.LeafRule.{picked}
-use Rattle.replace.specs.Rewire.{finished}
+use Rattle.replacement.specs.Rewire.{finished}
 use Rattle.listing.specs.declared.Candidate.{Candidate}
 use Rattle.listing.specs.Listing.{listed, proposalOf}
 use Rattle.run.specs.Run.{run, Greatest, Step, Steps, ends, goes-on}

@@ -15,9 +15,9 @@ use Rattle.graph.proofs.DropKeeps.{dropped-keeps-outputs}
 use Rattle.window.specs.LeafRule.{picked}
 use Rattle.window.proofs.Coverage.{covered-iff}
 use Rattle.window.proofs.LeafRule.{picked-well-set, picked-cuts}
-use Rattle.replace.specs.Rewire.{finished}
-use Rattle.replace.proofs.Finished.{finished-free, finished-all-reached, finished-well-formed, Fits, finished-keeps-outputs}
-use Rattle.replace.proofs.Gain.{falls-by-gain}
+use Rattle.replacement.specs.Rewire.{finished}
+use Rattle.replacement.proofs.Finished.{finished-free, finished-all-reached, finished-well-formed, Fits, finished-keeps-outputs}
+use Rattle.replacement.proofs.Gain.{falls-by-gain}
 use Rattle.listing.specs.Listing.{proposalOf}
 use Rattle.run.specs.Run.{step, End, stepsFrom, run, NoneAt, Step, Steps, ends, goes-on}
 use Rattle.run.proofs.Step.{step-is, no-step, best-good}

@@ -9,7 +9,7 @@ use native.Mathlib.Omega.{arith}
 use Rattle.graph.specs.Graph.{Graph, free, size, IsGate}
 use Rattle.graph.proofs.Lists.{at-most-or-above}
 use Rattle.window.specs.LeafRule.{picked}
-use Rattle.replace.specs.Rewire.{finished}
+use Rattle.replacement.specs.Rewire.{finished}
 use Rattle.listing.specs.declared.Candidate.{Candidate}
 use Rattle.listing.specs.Listing.{listed, proposalOf, GoodRecord}
 use Rattle.listing.proofs.TheList.{listed-is, list-empty-iff}

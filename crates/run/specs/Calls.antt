@@ -10,7 +10,7 @@ use Rattle.graph.specs.declared.refusal.Refusal.the-variants.{BadGraph, NoRoom}
 use Rattle.graph.specs.Lists.{filled}
 use Rattle.graph.specs.Lent.{Buffers, noRoomFor, NoRoomFor, storedIn, Effect, _leaving_}
 use Rattle.graph.specs.Refuse.{Row, _⇒_, firstRefusal, Outcome, accepted, refused}
-use Rattle.graph.specs.Graph.{Graph, size, wellFormed, WellFormed}
+use Rattle.graph.specs.Graph.{Graph, graphOf, size, wellFormed, WellFormed}
 use Rattle.run.specs.declared.Ran.{Ran}
 use Rattle.run.specs.Run.{run}
 
@@ -30,10 +30,14 @@ unfoldable pub runRefusals : Graph → RunBuffers → List Row
 unfolding wellFormed noRoomFor
 runRefusals g b = not (wellFormed g) ⇒ BadGraph ∷ (noRoomFor g (b .result) || noRoomFor g (b .work)) ⇒ NoRoom ∷ []
 
--- the needed words of the source graph g written: gates and outputs, and 0 beyond them
-unfoldable pub filledIn : Graph → List ℕ → List ℕ → Buffers → Buffers
+-- the needed words of the source graph g written: those of the graph h, and 0 beyond them
+unfoldable pub filledIn : Graph → Graph → Buffers → Buffers
 unfolding filled storedIn
-filledIn g gates outputs b = storedIn (filled (length (g .net .gates)) gates) (filled (length (g .outputs)) outputs) b
+filledIn g h b = storedIn (graphOf (h .net .inputs) (filled (length (g .net .gates)) (h .net .gates)) (filled (length (g .outputs)) (h .outputs))) b
+
+-- no gate and no output
+abbrev pub nothing : Graph
+nothing = graphOf 0 [] []
 
 -- afterwards the result holds the finished graph, and the work area 0
 unfoldable pub runEffect : Graph → RunBuffers → Effect Ran RunBuffers
@@ -43,7 +47,7 @@ runEffect g b =
       | some r ↦ Ran.Refused r leaving b
       | none ↦ let e = run g in
           Ran.Finished (size (e .graph .net)) (e .made)
-          leaving record { result = filledIn g (e .graph .net .gates) (e .graph .outputs) (b .result); work = filledIn g [] [] (b .work) }
+          leaving record { result = filledIn g (e .graph) (b .result); work = filledIn g nothing (b .work) }
     ]
 
 unfoldable pub ranOutcome : Ran → Outcome

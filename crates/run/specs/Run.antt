@@ -10,7 +10,7 @@ use Rattle.graph.specs.Lists.{_∈_}
 use Rattle.graph.specs.Graph.{Graph, free, size, IsGate}
 use Rattle.graph.specs.Drop.{dropped}
 use Rattle.window.specs.LeafRule.{picked}
-use Rattle.replace.specs.Rewire.{finished}
+use Rattle.replacement.specs.Rewire.{finished}
 use Rattle.listing.specs.declared.Candidate.{Candidate}
 use Rattle.listing.specs.Listing.{listed, proposalOf, GoodRecord}
 

@@ -20,7 +20,7 @@ use Rattle.text.specs.Line.{line}
 use Rattle.text.specs.States.{aag, inputLines, outputLines, gateLines, textWith}
 use Rattle.text.specs.Reading.{headerOf, Needed, inputNeeded, outputNeeded, gateNeeded, linesNeeded, gateWords, graphRead}
 use Rattle.text.proofs.Lines.{lines-decode}
-use Rattle.text.proofs.Gathered.{singles, singles-are, flatMap-append, flatMap-singles, by-part, row, length-row, row-first, row-second, row-third}
+use Rattle.graph.proofs.Gathered.{singles, singles-are, flatMap-append, flatMap-singles, by-part, row, length-row, row-first, row-second, row-third}
 
 -- ---- the numbers of a text
 

@@ -14,7 +14,7 @@ use Rattle.graph.proofs.Lists.{and-left}
 use Rattle.graph.proofs.Gather.{length-gather, getD-gather}
 use Rattle.text.specs.declared.header.Header.{Header}
 use Rattle.text.specs.Reading.{headerOf, Needed, inputNeeded, outputNeeded, gateNeeded, linesNeeded, gateWords, graphRead}
-use Rattle.text.proofs.Gathered.{singles, length-singles, getD-singles, singles-are, by-part, row, length-row, row-first, row-second, row-third, row-is}
+use Rattle.graph.proofs.Gathered.{singles, length-singles, getD-singles, singles-are, by-part, row, length-row, row-first, row-second, row-third, row-is}
 use Rattle.text.proofs.Body.{counts, gateNumbers, linesOf, Kept, noNeed, Fits, lines-fit, graph-read-is, words-at, gate-sides}
 
 -- ---- one line

@@ -28,7 +28,7 @@ use Rattle.text.specs.Refusals.{Headed}
 use Rattle.text.specs.Calls.{withRoom, readEffect}
 use Rattle.text.proofs.Cases.{refuses-not-yields, yields-injective}
 use Rattle.text.proofs.Lines.{header-line-iff}
-use Rattle.text.proofs.Gathered.{singles-are}
+use Rattle.graph.proofs.Gathered.{singles-are}
 use Rattle.text.proofs.Body.{counts, linesOf, text-is, lines-fit, graph-of-lines}
 use Rattle.text.proofs.Fitting.{swapsRead, lines-of-read, read-lawful, read-counts, counts-small, numbers-small}
 use Rattle.text.proofs.Spelling.{Spelled, read-lines-iff}
@@ -218,6 +218,6 @@ reading-iff t g = (reading-stated t g, stated-reading t g)
 
 -- where there is room for the graph that is read, it is stored
 pub reads-graph : (t : List ℕ) (b : Buffers) (g : Graph) → reading t ≡ yields g → noRoomFor g b ≡ false
-    → readEffect t b ≡ ReadText.Graph (g .net .inputs) (size (g .net)) (length (g .outputs)) leaving storedIn (g .net .gates) (g .outputs) b
+    → readEffect t b ≡ ReadText.Graph (g .net .inputs) (size (g .net)) (length (g .outputs)) leaving storedIn g b
 unfolding readEffect withRoom
 reads-graph t b g e room = rw (e, readEffect, withRoom, room)

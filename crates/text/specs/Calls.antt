@@ -27,7 +27,7 @@ unfolding reading withRoom storedIn
 readEffect t b =
     elim (withRoom (reading t) b) [
       | refuses r ↦ ReadText.Refused r leaving b
-      | yields g ↦ ReadText.Graph (g .net .inputs) (size (g .net)) (length (g .outputs)) leaving storedIn (g .net .gates) (g .outputs) b
+      | yields g ↦ ReadText.Graph (g .net .inputs) (size (g .net)) (length (g .outputs)) leaving storedIn g b
     ]
 
 unfoldable pub readOutcome : ReadText → Outcome

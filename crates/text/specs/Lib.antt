@@ -4,4 +4,3 @@ pub mod States
 pub mod Reading
 pub mod Refusals
 pub mod Calls
-pub mod Places

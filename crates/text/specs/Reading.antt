@@ -22,6 +22,10 @@ use Rattle.text.specs.States.{aag, skipped, States}
 abbrev pub headerOf : List ℕ → Header
 headerOf ns = record { highest = getD ns 0 0; inputs = getD ns 1 0; latches = getD ns 2 0; outputs = getD ns 3 0; gates = getD ns 4 0 }
 
+-- how many variables stand before the first gate
+abbrev pub freeOf : Header → ℕ
+freeOf h = h .inputs
+
 -- the five numbers of a well-shaped first line, and the text that follows it
 unfoldable pub headerLine : List ℕ → Option (Front (List ℕ))
 unfolding after lineOf
@@ -38,7 +42,7 @@ unfoldable pub headerRefusals : List ℕ → Header → List Row
 headerRefusals t h =
     (ltb mostInputs (h .inputs) || ltb mostOutputs (h .outputs) || ltb mostGates (h .gates) || ltb mostBytes (length t)) ⇒ TooLarge
     ∷ not (eqb (h .latches) 0) ⇒ Latches
-    ∷ not (eqb (h .highest) (h .inputs + h .gates)) ⇒ BadCount
+    ∷ not (eqb (h .highest) (freeOf h + h .gates)) ⇒ BadCount
     ∷ []
 
 -- ---- the later lines
@@ -68,7 +72,7 @@ abbrev pub outputsNeeded : Header → List Needed
 outputsNeeded h = gather (λ k. outputNeeded h ∷ []) (h .outputs)
 
 abbrev pub gatesNeeded : Header → List Needed
-gatesNeeded h = gather (λ k. gateNeeded (suc (h .inputs + k)) ∷ []) (h .gates)
+gatesNeeded h = gather (λ k. gateNeeded (suc (freeOf h + k)) ∷ []) (h .gates)
 
 unfoldable pub linesNeeded : Header → List Needed
 unfolding gather inputNeeded outputNeeded gateNeeded

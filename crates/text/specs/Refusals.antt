@@ -12,7 +12,7 @@ use Rattle.graph.specs.Lent.{Buffers, NoRoomFor}
 use Rattle.text.specs.Number.{mostNumber}
 use Rattle.text.specs.Line.{line}
 use Rattle.text.specs.States.{aag, skipped, States, textOf}
-use Rattle.text.specs.Reading.{headerOf, mostBytes, Needed, linesNeeded}
+use Rattle.text.specs.Reading.{headerOf, freeOf, mostBytes, Needed, linesNeeded}
 
 -- the text t starts with a well-shaped line of n numbers; the rest follows it
 pub record Shaped (n : ℕ) (t ns rest : List ℕ) : Type 0 where
@@ -44,7 +44,7 @@ pub data ReadGiven (t : List ℕ) (b : Buffers) : Refusal → Type 0 where
   many-gates : {ns rest : List ℕ} → Headed t ns rest → mostGates < (headerOf ns) .gates → ReadGiven t b TooLarge
   many-bytes : mostBytes < length t → ReadGiven t b TooLarge
   latches : {ns rest : List ℕ} → Headed t ns rest → ¬ ((headerOf ns) .latches ≡ 0) → ReadGiven t b Latches
-  bad-count : {ns rest : List ℕ} → Headed t ns rest → ¬ ((headerOf ns) .highest ≡ (headerOf ns) .inputs + (headerOf ns) .gates)
+  bad-count : {ns rest : List ℕ} → Headed t ns rest → ¬ ((headerOf ns) .highest ≡ freeOf (headerOf ns) + (headerOf ns) .gates)
       → ReadGiven t b BadCount
   wrong-line : {ns rest : List ℕ} {r : Refusal} → Headed t ns rest → FirstWrong (linesNeeded (headerOf ns)) rest r → ReadGiven t b r
   no-room : {g : Graph} → States t g → NoRoomFor g b → ReadGiven t b NoRoom

@@ -1,20 +1,11 @@
-// AIGER ASCII text in and out.
-mod bytes;
-mod counting;
-mod decimal;
-mod from_text;
+// AIGER ASCII text: what it states, and what reading and writing answer.
 mod header;
-mod line;
-mod number;
-mod put;
-mod reader;
-mod section;
-mod to_text;
-mod verdict;
 
-pub use from_text::read;
 use graph::Refusal;
-pub use to_text::write;
+pub use header::Header;
+
+// A text has at most so many bytes.
+pub const MOST_BYTES: usize = 65535;
 
 // What reading a text answers: the counts of the graph that it states, or why it is refused.
 pub enum ReadText {

@@ -1,0 +1,11 @@
+pub mod Walk
+pub mod Answers
+pub mod Thin
+pub mod Asked
+pub mod Runs
+pub mod Steps
+pub mod Lined
+pub mod FirstLine
+pub mod Sections
+pub mod BySection
+pub mod KeptAside

@@ -1,0 +1,135 @@
+-- `text::section::read_gates` meets its contract: the loop reads the lines needed, in order, up to the first that is not right, and stores their gates' words.
+-- Assumes nothing.
+use mathlib.Core.Path.{_≡_, refl, sym}
+use Prim.Native.Nat.{ℕ, suc, _+_, _*_, _-_, _≤_, _<_}
+use native.Mathlib.Numerals.{add-one}
+use native.Mathlib.Omega.{arith}
+use borrow.Author.Needs.{needs}
+use lib.ListN.{length, take, drop}
+use Rattle.graph.specs.Graph.{largerFirst}
+use Rattle.text.specs.Reading.{Needed, gateNeeded, gateWords}
+use Rattle.reader.specs.Places.{gateStep, sectionWords}
+use Rattle.reader.proofs.Sections.{SoFar, none-so-far, line-refused, line-fine}
+use Rattle.graph.proofs.StoredWords.{take-laid}
+use Rattle.reader.proofs.section.read_gates.Statement.{statement}
+use Rattle.reader.proofs.section.read_gates.Tie as tie
+
+-- gate line k, counted from 0
+abbrev need : ℕ → ℕ → Needed
+need inputs k = gateNeeded (suc (inputs + k))
+
+abbrev Inv-loop : tie.InvT-loop
+Inv-loop text at stored₀ inputs count next₀ k₀ stored next k =
+    (k ≤ count) × (length stored ≡ length stored₀)
+    × SoFar gateWords (need inputs) (drop at text) k (take (2 * k) stored) (drop next text)
+
+abbrev μ-loop : tie.MeasureT-loop
+μ-loop text at stored₀ inputs count next₀ k₀ stored next k = count - k
+
+loop-holds : tie.Need-loop-holds Inv-loop μ-loop
+loop-holds c = (search needs, refl, none-so-far)
+
+gate-line-requires : tie.Need-gate-line-requires Inv-loop μ-loop
+gate-line-requires c κs = search needs
+
+add-t13 : tie.Need-add-t13 Inv-loop μ-loop
+add-t13 c = omega arith
+
+add-t14 : tie.Need-add-t14 Inv-loop μ-loop
+add-t14 c = omega arith
+
+is-gate-of-requires : tie.Need-is-gate-of-requires Inv-loop μ-loop
+is-gate-of-requires c κs = omega arith
+
+line-verdict-requires : tie.Need-line-verdict-requires Inv-loop μ-loop
+line-verdict-requires c κs = search needs
+
+enum-known-refusal : tie.Need-enum-known-refusal Inv-loop μ-loop
+enum-known-refusal c = search needs
+
+same-length : tie.Need-same-length Inv-loop μ-loop
+same-length c = search needs
+
+returns : tie.Need-returns Inv-loop μ-loop
+unfolding sectionWords gateStep gateNeeded
+returns c =
+    let judged = c .before .before .before in
+    let tested = judged .before in
+    let read = tested .before in
+    sym
+    (line-refused (read .before .before .loop .inv .2) _ _ (read .gate-line .ensures) (rw add-one at (tested .is-gate-of .ensures)) (judged .line-verdict .ensures)
+    (c .before .refusal .given .1) (read .before .loop-test .taken))
+
+enum-told : tie.Need-enum-told Inv-loop μ-loop
+enum-told c = search needs
+
+cast-store-gate : tie.Need-cast-store-gate Inv-loop μ-loop
+cast-store-gate c = omega arith
+
+mul-store-gate : tie.Need-mul-store-gate Inv-loop μ-loop
+mul-store-gate c = omega arith
+
+store-gate-requires : tie.Need-store-gate-requires Inv-loop μ-loop
+store-gate-requires c κs =
+    let l = c .before .before .before .before .before .before .before in
+    let room : 2 * l .loop .k + 1 < length (l .loop .words) = omega arith in
+    room
+
+add-k : tie.Need-add-k Inv-loop μ-loop
+add-k c = omega arith
+
+loop-less : tie.Need-loop-less Inv-loop μ-loop
+loop-less c = omega arith
+
+loop-again : tie.Need-loop-again Inv-loop μ-loop
+unfolding gateStep gateNeeded gateWords largerFirst
+loop-again c =
+    let stored = c .before .before in
+    let fine = stored .before .before in
+    let judged = fine .before .before in
+    let tested = judged .before in
+    let read = tested .before in
+    let l = read .before .before in
+    let a = read .gate-line .result in
+    let room : 2 * l .loop .k ≤ length (l .loop .words) = omega arith in
+    let turn : 2 * (l .loop .k + 1) ≡ 2 * l .loop .k + 2 = omega arith in (
+      omega arith,
+      omega arith,
+      rw (turn, stored .store-gate .ensures, take-laid (2 * l .loop .k) (l .loop .words) (largerFirst (a .one .0) (a .other .0)) room)
+          (line-fine (l .loop .inv .2) _ _ (read .gate-line .ensures) (rw add-one at (tested .is-gate-of .ensures)) (judged .line-verdict .ensures) (fine .enum-told .given .1)),
+    )
+
+same-length-2 : tie.Need-same-length-2 Inv-loop μ-loop
+same-length-2 c = search needs
+
+returns-2 : tie.Need-returns-2 Inv-loop μ-loop
+unfolding sectionWords
+returns-2 c =
+    let l = c .before in
+    let e : l .loop .k ≡ l .before .before .before .args .header .gates = omega arith in
+    sym (rw e at (l .loop .inv .2 .is))
+
+pub read-gates-spec : {M : Type 1} → statement M
+read-gates-spec =
+    tie.close
+    (tie.spec
+    Inv-loop
+    μ-loop
+    loop-holds
+    gate-line-requires
+    add-t13
+    add-t14
+    is-gate-of-requires
+    line-verdict-requires
+    enum-known-refusal
+    same-length
+    returns
+    enum-told
+    cast-store-gate
+    mul-store-gate
+    store-gate-requires
+    add-k
+    loop-less
+    loop-again
+    same-length-2
+    returns-2)

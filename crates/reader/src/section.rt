@@ -1,0 +1,138 @@
+// The lines after the first, a section at a time. The first wrong line ends it.
+ghost use mathlib.Core.Path.{_≡_};
+ghost use mathlib.Core.List.{[]};
+ghost use Prim.Native.Nat.{_+_, _*_, _<_, _≤_};
+ghost use lib.ListN.{length, take, drop};
+ghost use Rattle.text.specs.States.{skipped};
+ghost use Rattle.text.specs.Reading.{gateNeeded, inputsNeeded, outputsNeeded, gatesNeeded, gateWords};
+ghost use Rattle.reader.specs.Places.{Limited, noWords, outputWords, gateNumbersOf, readWords, sectionWords};
+ghost use Rattle.graph.specs.Graph.{mostInputs, mostGates, largerFirst};
+ghost use Rattle.graph.specs.Lent.{laid};
+use crate::line::GateLine;
+use crate::line::gate_line;
+use crate::line::line_verdict;
+use crate::line::literal_line;
+use graph::Lit;
+use graph::Refusal;
+use graph::Var;
+use graph::Verdict;
+use text::Header;
+
+// Where a section ends, or why its first wrong line is refused.
+pub enum Section {
+    Ends(usize),
+    Wrong(Refusal),
+}
+
+// Input line k is 2k.
+pub(crate) fn read_inputs(text: &[u8], at: usize, header: Header) -> Section
+    requires { ⌜ Limited header ⌝ }
+    ensures { λ r. ⌜ sectionWords (now (text .entry)) [] r ≡ readWords noWords (inputsNeeded header) (drop at (now (text .entry))) ⌝ }
+{
+    let count = header.inputs;
+    let mut next = at;
+    let mut k: u32 = 0;
+    while k < count {
+        let line = literal_line(text, next);
+        let kept = line.literal.0 == Var(k + 1).plain().0;
+        if let Verdict::Refused(refusal) = line_verdict(line.found, kept) {
+            return Section::Wrong(refusal);
+        }
+        next = line.next;
+        k += 1;
+    }
+    Section::Ends(next)
+}
+
+// An output is any literal up to 2M + 1.
+pub(crate) fn read_outputs(text: &[u8], at: usize, header: Header, words: &mut [u32]) -> Section
+    requires { ⌜ Limited header ⌝ }
+    requires { ⌜ header .outputs ≤ length (now words) ⌝ }
+    ensures { λ r. ⌜ sectionWords (now (text .entry)) (take (header .outputs) (now (words .exit))) r ≡ readWords outputWords (outputsNeeded header) (drop at (now (text .entry))) ⌝ }
+{
+    let most = Var(header.highest).plain().0 + 1;
+    let count = header.outputs as usize;
+    let mut next = at;
+    let mut k: usize = 0;
+    while k < count {
+        let line = literal_line(text, next);
+        let kept = line.literal.0 <= most;
+        if let Verdict::Refused(refusal) = line_verdict(line.found, kept) {
+            return Section::Wrong(refusal);
+        }
+        words[k] = line.literal.0;
+        next = line.next;
+        k += 1;
+    }
+    Section::Ends(next)
+}
+
+// That a line is the line of this gate: the gate's own literal on the left, and smaller ones on the right.
+fn is_gate_of(line: GateLine, gate: Var) -> bool
+    requires { ⌜ gate .0 ≤ mostInputs + mostGates ⌝ }
+    ensures { λ r. ⌜ r ≡ (gateNeeded (gate .0)) .rule (gateNumbersOf line) ⌝ }
+{
+    let own = gate.plain();
+    if line.left.0 != own.0 {
+        return false;
+    }
+    if own.0 <= line.one.0 {
+        return false;
+    }
+    line.other.0 < own.0
+}
+
+// Stores a gate's two literals, the larger first.
+fn store_gate(words: &mut [u32], at: usize, one: Lit, other: Lit)
+    requires { ⌜ at + 1 < length (now words) ⌝ }
+    ensures { λ _. ⌜ now (words .exit) ≡ laid at (largerFirst (one .0) (other .0)) (now (words .entry)) ⌝ }
+{
+    let second = at + 1;
+    if one.0 < other.0 {
+        words[at] = other.0;
+        words[second] = one.0;
+    } else {
+        words[at] = one.0;
+        words[second] = other.0;
+    }
+}
+
+// Gate line k has left side 2(I + k), and its right sides in either order.
+pub(crate) fn read_gates(text: &[u8], at: usize, header: Header, words: &mut [u32]) -> Section
+    requires { ⌜ Limited header ⌝ }
+    requires { ⌜ 2 * header .gates ≤ length (now words) ⌝ }
+    ensures { λ r. ⌜ sectionWords (now (text .entry)) (take (2 * header .gates) (now (words .exit))) r ≡ readWords gateWords (gatesNeeded header) (drop at (now (text .entry))) ⌝ }
+{
+    let inputs = header.inputs;
+    let count = header.gates;
+    let mut next = at;
+    let mut k: u32 = 0;
+    while k < count {
+        let line = gate_line(text, next);
+        let kept = is_gate_of(line, Var(inputs + k + 1));
+        if let Verdict::Refused(refusal) = line_verdict(line.found, kept) {
+            return Section::Wrong(refusal);
+        }
+        store_gate(words, 2 * (k as usize), line.one, line.other);
+        next = line.next;
+        k += 1;
+    }
+    Section::Ends(next)
+}
+
+// That the rest is empty, or starts with `i`, `o` or `c`.
+pub(crate) fn rest_is_skipped(text: &[u8], at: usize) -> bool
+    ensures { λ r. ⌜ r ≡ skipped (drop at (now (text .entry))) ⌝ }
+{
+    if text.len() <= at {
+        return true;
+    }
+    let byte = text[at];
+    if byte == b'i' {
+        return true;
+    }
+    if byte == b'o' {
+        return true;
+    }
+    byte == b'c'
+}

@@ -1,0 +1,59 @@
+-- Applying a proposal as a call: the refusals in order, the answer, and the lent lists afterwards.
+-- Assumes nothing.
+use Prim.Native.Nat.{ℕ, _≤_}
+use mathlib.Core.Path.{_≡_}
+use mathlib.Core.Bool.{Bool, not}
+use mathlib.Core.List.{List, [], _∷_, _++_}
+use mathlib.Core.Option.{none, some}
+use lib.ListN.{length}
+use Rattle.graph.specs.declared.refusal.Refusal.{Refusal}
+use Rattle.graph.specs.declared.refusal.Refusal.the-variants.{BadCandidate, NotEqual, NoGain, OrderLost, NoRoom}
+use Rattle.graph.specs.Lent.{Buffers, noRoomFor, NoRoomFor, storedIn, Effect, _leaving_}
+use Rattle.graph.specs.Refuse.{Row, _⇒_, firstRefusal, Outcome, accepted, refused}
+use Rattle.graph.specs.Use.{usedGates}
+use Rattle.graph.specs.Graph.{Graph, size, wellFormed, WellFormed}
+use Rattle.window.specs.declared.Leaves.{Leaves}
+use Rattle.window.specs.Table.{table, sameTable}
+use Rattle.window.specs.Calls.{windowRefusals, WindowGiven}
+use Rattle.replacement.specs.declared.Proposal.{Proposal}
+use Rattle.replacement.specs.declared.Applied.{Applied}
+use Rattle.replacement.specs.Proposal.{allowed, Allowed, proposedTable}
+use Rattle.replacement.specs.Rewire.{finished, gain, atLeastOne}
+
+-- a replacement's table equals the root's
+unfoldable pub equalTables : Graph → ℕ → Leaves → Proposal → Bool
+unfolding sameTable table proposedTable
+equalTables g root w p = sameTable (proposedTable (g .net) root w p) (table (g .net) w root)
+
+-- when applying a proposal is refused
+pub data ApplyGiven (g : Graph) (root : ℕ) (w : Leaves) (p : Proposal) (b : Buffers) : Refusal → Type 0 where
+  by-window : {r : Refusal} → WindowGiven g root w r → ApplyGiven g root w p b r
+  bad-candidate : ¬ Allowed (g .net) root w p → ApplyGiven g root w p b BadCandidate
+  not-equal : ¬ (proposedTable (g .net) root w p ≡ table (g .net) w root) → ApplyGiven g root w p b NotEqual
+  no-gain : usedGates g ≤ usedGates (finished g root p) → ApplyGiven g root w p b NoGain
+  order-lost : ¬ WellFormed (finished g root p) → ApplyGiven g root w p b OrderLost
+  no-room : NoRoomFor (finished g root p) b → ApplyGiven g root w p b NoRoom
+
+-- the room is that of the finished graph
+unfoldable pub applyRefusals : Graph → ℕ → Leaves → Proposal → Buffers → List Row
+unfolding windowRefusals allowed equalTables gain atLeastOne finished wellFormed noRoomFor
+applyRefusals g root w p b =
+    windowRefusals g root w
+    ++ (not (allowed (g .net) root w p) ⇒ BadCandidate
+    ∷ not (equalTables g root w p) ⇒ NotEqual
+    ∷ not (atLeastOne (gain g root p)) ⇒ NoGain
+    ∷ not (wellFormed (finished g root p)) ⇒ OrderLost
+    ∷ noRoomFor (finished g root p) b ⇒ NoRoom
+    ∷ [])
+
+unfoldable pub applyEffect : Graph → ℕ → Leaves → Proposal → Buffers → Effect Applied Buffers
+unfolding applyRefusals firstRefusal finished storedIn
+applyEffect g root w p b =
+    elim (firstRefusal (applyRefusals g root w p b)) [
+      | some r ↦ Applied.Refused r leaving b
+      | none ↦ let h = finished g root p in Applied.Graph (size (h .net)) (length (h .outputs)) leaving storedIn h b
+    ]
+
+unfoldable pub appliedOutcome : Applied → Outcome
+appliedOutcome (Applied.Graph gates outputs) = accepted (gates ∷ outputs ∷ [])
+appliedOutcome (Applied.Refused r) = refused r

@@ -1,0 +1,75 @@
+-- A proposal: its rule, its local value and its table, each by kind.
+-- Assumes nothing.
+use Prim.Native.Nat.{ℕ, _≤_, _<_}
+use mathlib.Core.Path.{_≡_}
+use mathlib.Core.Bool.{Bool, true, false, cond, _&&_}
+use mathlib.Core.List.{List, [], _∷_}
+use lib.Dec.{leb, ltb, eqb}
+use Rattle.graph.specs.Lists.{every}
+use Rattle.graph.specs.Literal.{varOf, isOdd}
+use Rattle.graph.specs.Graph.{Net}
+use Rattle.graph.specs.Sweep.{Kind, bools, turned, litValue}
+use Rattle.window.specs.declared.Leaves.{Leaves}
+use Rattle.window.specs.Local.{covered, localUpTo}
+use Rattle.window.specs.Table.{bit, pack, patterns}
+use Rattle.replacement.specs.declared.Proposal.{Proposal}
+
+abbrev pub literal : ℕ → Proposal
+literal l = record { kind = 0; first = record { 0 = l }; second = record { 0 = 0 }; turned = 0 }
+
+abbrev pub andGate : ℕ → ℕ → ℕ → Proposal
+andGate a b c = record { kind = 1; first = record { 0 = a }; second = record { 0 = b }; turned = c }
+
+-- the literal's variable is covered and below the root
+unfoldable pub divides : Net → ℕ → Leaves → ℕ → Bool
+unfolding covered
+divides net root w l = ltb (varOf l) root && covered net w (varOf l)
+
+-- kind 0: such a literal, variable 0 included; second and turned are 0
+unfoldable pub literalRules : Net → ℕ → Leaves → Proposal → List Bool
+unfolding divides
+literalRules net root w p = divides net root w (p .first .0) ∷ eqb (p .second .0) 0 ∷ eqb (p .turned) 0 ∷ []
+
+-- kind 1: two such literals, both variables at least 1, the second's below the first's; turned is 0 or 1
+unfoldable pub andRules : Net → ℕ → Leaves → Proposal → List Bool
+unfolding divides
+andRules net root w p =
+    divides net root w (p .first .0)
+    ∷ divides net root w (p .second .0)
+    ∷ ltb 0 (varOf (p .second .0))
+    ∷ ltb (varOf (p .second .0)) (varOf (p .first .0))
+    ∷ leb (p .turned) 1
+    ∷ []
+
+-- the proposal keeps the rule of its kind; there are no other kinds
+unfoldable pub allowed : Net → ℕ → Leaves → Proposal → Bool
+unfolding every literalRules andRules
+allowed net root w p =
+    cond (eqb (p .kind) 0) (every (literalRules net root w p)) (cond (eqb (p .kind) 1) (every (andRules net root w p)) false)
+
+-- the same as facts
+pub record Divides (net : Net) (root : ℕ) (w : Leaves) (l : ℕ) : Type 0 where
+  pub below-root : varOf l < root
+  pub is-covered : covered net w (varOf l) ≡ true
+
+pub data Allowed (net : Net) (root : ℕ) (w : Leaves) (p : Proposal) : Type 0 where
+  a-literal : p .kind ≡ 0 → Divides net root w (p .first .0) → p .second .0 ≡ 0 → p .turned ≡ 0 → Allowed net root w p
+  an-and : p .kind ≡ 1
+      → Divides net root w (p .first .0)
+      → Divides net root w (p .second .0)
+      → 0 < varOf (p .second .0)
+      → varOf (p .second .0) < varOf (p .first .0)
+      → p .turned ≤ 1
+      → Allowed net root w p
+
+-- the proposal's value over any kind of value, where vs has the values of the variables below the root
+unfoldable pub proposedValue : {A : Type 0} → Kind A → List A → Proposal → A
+unfolding turned litValue
+proposedValue K vs p =
+    cond (eqb (p .kind) 0) (litValue K vs (p .first .0))
+    (turned K (isOdd (p .turned)) (K .conj (litValue K vs (p .first .0)) (litValue K vs (p .second .0))))
+
+-- the proposal's table over the leaves
+unfoldable pub proposedTable : Net → ℕ → Leaves → Proposal → ℕ
+unfolding pack bit localUpTo proposedValue bools
+proposedTable net root w p = pack patterns (λ i. proposedValue bools (localUpTo net w (bit i) root) p)

@@ -1,0 +1,1 @@
+// No code: proofs/ has what walks by hand share, whatever the crate.

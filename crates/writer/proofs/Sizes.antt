@@ -1,0 +1,134 @@
+-- How many bytes the lines have: those of their numbers and one after each, so that a text's bytes are counted number by number.
+-- Assumes nothing.
+use mathlib.Core.Path.{_≡_, refl, ap, _∙_}
+use mathlib.Core.List.{List, [], _∷_, _++_}
+use Prim.Native.Nat.{ℕ, zero, suc, _+_, _*_, _/_, _%_, _≤_, _<_, zero-le}
+use native.Mathlib.Numerals.{add-one}
+use native.Mathlib.Omega.{arith}
+use lib.ListN.{length, getD, length-append}
+use Rattle.graph.specs.Lists.{gather}
+use Rattle.graph.specs.Graph.{netOf, graphOf}
+use Rattle.text.specs.Number.{decimal, mostNumber}
+use Rattle.text.specs.Line.{space, lineFeed, line}
+use Rattle.text.specs.States.{aag, inputLines, outputLines, textOf}
+use Rattle.text.proofs.Numbers.{decimal-one, decimal-short}
+use Rattle.writer.proofs.Writing.{
+  numbered,
+  line-one,
+  length-three,
+  first-line-length,
+  inputLine,
+  input-lines,
+  outputLine,
+  output-lines,
+  gateLineOf,
+  gate-lines,
+  text-size,
+}
+
+numbered-size : (x byte : ℕ) → length (numbered x byte) ≡ length (decimal x) + 1
+numbered-size x byte = length-append (decimal x) (byte ∷ [])
+
+line-size : (x : ℕ) → length (line (x ∷ [])) ≡ length (decimal x) + 1
+line-size x = ap length (line-one x) ∙ numbered-size x lineFeed
+
+-- ---- lines of one number, counted one after another
+
+-- the first k of n lines have so many bytes, at most ten digits and one byte each
+pub record Counts (f : ℕ → List ℕ) (n k total : ℕ) : Type 0 where
+  pub within : k ≤ n
+  pub total-is : total ≡ length (gather f k)
+  pub few : total ≤ 11 * k
+
+pub counts-none : (f : ℕ → List ℕ) (n : ℕ) → Counts f n 0 0
+unfolding gather
+counts-none f n = record { within = zero-le; total-is = refl; few = zero-le }
+
+module _ {f : ℕ → List ℕ} {n k total : ℕ} (c : Counts f n k total) where
+  pub counts-all : n ≤ k → total ≡ length (gather f n)
+  counts-all h = let e : k ≡ n = omega arith in rw e at (c .total-is)
+
+  pub count-then : k < n → (x : ℕ) → f k ≡ line (x ∷ []) → x ≤ mostNumber → {size : ℕ} → size ≡ length (decimal x) → Counts f n (k + 1) (total + (size + 1))
+  unfolding gather
+  count-then h x e s q =
+      let more = ap length e ∙ line-size x in
+      let short = decimal-short 9 x (omega arith) in
+      record {
+        within = omega arith;
+        total-is = rw (add-one k) (omega (arith, length-append (gather f k) (f k), c .total-is));
+        few = omega (arith, c .few);
+      }
+
+-- ---- the text
+
+first-line-size : (m i o a : ℕ) → length (aag ++ line (m ∷ i ∷ 0 ∷ o ∷ a ∷ []))
+    ≡ 4 + length (decimal m) + length (decimal i) + 1 + length (decimal o) + length (decimal a) + 5
+first-line-size m i o a = omega (
+  arith,
+  first-line-length m i 0 o a,
+  numbered-size m space,
+  numbered-size i space,
+  numbered-size 0 space,
+  numbered-size o space,
+  numbered-size a lineFeed,
+  ap length (decimal-one 0 (omega arith)),
+)
+
+gather-size : (f : ℕ → List ℕ) (k : ℕ) → length (gather f (suc k)) ≡ length (gather f k) + length (f k)
+unfolding gather
+gather-size f k = length-append (gather f k) (f k)
+
+module _ (i : ℕ) (gs : List ℕ) where
+  -- a gate's numbers are the literal of its variable and two words
+  gate-size : (k : ℕ) → length (gateLineOf i gs k) ≡ length (inputLine (i + k)) + length (outputLine gs (2 * k)) + length (outputLine gs (suc (2 * k)))
+  gate-size k = rw (add-one (2 * k)) (omega (
+    arith,
+    length-three (2 * suc (i + k)) (getD gs (2 * k) 0) (getD gs (suc (2 * k)) 0),
+    numbered-size (2 * suc (i + k)) space,
+    numbered-size (getD gs (2 * k) 0) space,
+    numbered-size (getD gs (suc (2 * k)) 0) lineFeed,
+    line-size (2 * suc (i + k)),
+    line-size (getD gs (2 * k) 0),
+    line-size (getD gs (suc (2 * k)) 0),
+  ))
+
+  gates-size : (k : ℕ) → length (gather inputLine i) + length (gather (gateLineOf i gs) k) ≡ length (gather inputLine (i + k)) + length (gather (outputLine gs) (2 * k))
+  unfolding gather
+  gates-size zero = let e : i + 0 ≡ i = omega arith in rw e
+  gates-size (suc k) =
+      let p : i + suc k ≡ suc (i + k) = omega arith in
+      let q : 2 * suc k ≡ suc (suc (2 * k)) = omega arith in
+      rw (p, q)
+      (omega (
+        arith,
+        gates-size k,
+        gate-size k,
+        gather-size (gateLineOf i gs) k,
+        gather-size inputLine (i + k),
+        gather-size (outputLine gs) (2 * k),
+        gather-size (outputLine gs) (suc (2 * k)),
+      ))
+
+-- the first line, the literals of all the variables, the outputs and the gates' words
+abbrev pub bytesOf : ℕ → List ℕ → List ℕ → ℕ
+bytesOf i gs os =
+    4 + length (decimal (i + length gs / 2)) + length (decimal i) + 1 + length (decimal (length os)) + length (decimal (length gs / 2)) + 5
+    + length (inputLines (netOf (i + length gs / 2) []))
+    + length (outputLines os)
+    + length (outputLines gs)
+
+pub text-count : (i : ℕ) (gs os : List ℕ) → length gs % 2 ≡ 0 → length (textOf (graphOf i gs os)) ≡ bytesOf i gs os
+text-count i gs os even =
+    let n : ℕ = length gs / 2 in
+    let e : 2 * n ≡ length gs = omega arith in
+    omega (
+      arith,
+      text-size i gs os,
+      first-line-size (i + n) i (length os) n,
+      ap length (input-lines i []),
+      ap length (gate-lines i gs),
+      gates-size i gs n,
+      ap length (input-lines (i + n) []),
+      ap length (output-lines gs),
+      ap (λ (k : ℕ). length (gather (outputLine gs) k)) e,
+    )

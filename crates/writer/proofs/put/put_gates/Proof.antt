@@ -1,0 +1,113 @@
+-- `text::to_text::put_gates` meets its contract: after k turns the first k gate lines are laid. The measure is what is left of the gates.
+-- Assumes nothing.
+use mathlib.Core.Path.{_≡_}
+use Prim.Native.Nat.{suc, _+_, _-_, _*_, _/_}
+use native.Mathlib.Omega.{arith}
+use lib.ListN.{length}
+use Rattle.graph.proofs.Laying.{Pieces, pieces-none, pieces-length, pieces-all, piece-room, piece-then}
+use Rattle.writer.proofs.Writing.{gateLineOf, gate-lines}
+use Rattle.writer.proofs.put.put_gates.Statement.{statement}
+use Rattle.writer.proofs.put.put_gates.Tie as tie
+
+abbrev Inv-loop : tie.InvT-loop
+Inv-loop bytes₀ at inputs gates count next₀ k₀ bytes next k = Pieces (gateLineOf inputs gates) (length gates / 2) at bytes₀ k next bytes
+
+abbrev μ-loop : tie.MeasureT-loop
+μ-loop bytes₀ at inputs gates count next₀ k₀ bytes next k = length gates / 2 - k
+
+cast-count : tie.Need-cast-count Inv-loop μ-loop
+cast-count c = omega arith
+
+loop-holds : tie.Need-loop-holds Inv-loop μ-loop
+loop-holds c =
+    let a = c .before .before .args in
+    let gs = a .gates .now in
+    pieces-none (gateLineOf (a .inputs) gs) (length gs / 2) (a .at) (a .bytes .now) (rw (gate-lines (a .inputs) gs) at (c .before .before .pre .1))
+
+cast-place : tie.Need-cast-place Inv-loop μ-loop
+cast-place c = omega arith
+
+mul-place : tie.Need-mul-place Inv-loop μ-loop
+mul-place c = omega arith
+
+mul-t15 : tie.Need-mul-t15 Inv-loop μ-loop
+mul-t15 c = omega arith
+
+shared-slice-read-t17 : tie.Need-shared-slice-read-t17 Inv-loop μ-loop
+shared-slice-read-t17 c = omega arith
+
+add-t15 : tie.Need-add-t15 Inv-loop μ-loop
+add-t15 c = omega arith
+
+mul-t18 : tie.Need-mul-t18 Inv-loop μ-loop
+mul-t18 c = omega arith
+
+shared-slice-read-t17-2 : tie.Need-shared-slice-read-t17-2 Inv-loop μ-loop
+shared-slice-read-t17-2 c = omega arith
+
+add-t17 : tie.Need-add-t17 Inv-loop μ-loop
+add-t17 c = omega arith
+
+add-t20 : tie.Need-add-t20 Inv-loop μ-loop
+add-t20 c = omega arith
+
+plain-requires : tie.Need-plain-requires Inv-loop μ-loop
+plain-requires c κs = omega arith
+
+put-gate-requires : tie.Need-put-gate-requires Inv-loop μ-loop
+put-gate-requires c κs =
+    let plain = c .before in
+    let turn = plain .before .before .before in
+    let l = turn .before .loop in
+    let a = turn .before .before .before .before .args in
+    let e : plain .plain .result .0 ≡ 2 * suc (a .inputs + l .k) = omega arith in
+    rw e (piece-room (l .inv) (turn .loop-test .taken))
+
+add-k : tie.Need-add-k Inv-loop μ-loop
+add-k c = omega arith
+
+loop-less : tie.Need-loop-less Inv-loop μ-loop
+loop-less c = omega arith
+
+loop-again : tie.Need-loop-again Inv-loop μ-loop
+loop-again c =
+    let put = c .before .before in
+    let plain = put .before .before in
+    let turn = plain .before .before .before in
+    let l = turn .before .loop in
+    let a = turn .before .before .before .before .args in
+    let e : plain .plain .result .0 ≡ 2 * suc (a .inputs + l .k) = omega arith in
+    piece-then (l .inv) (turn .loop-test .taken) (rw e at (put .put-gate .ensures))
+
+same-length : tie.Need-same-length Inv-loop μ-loop
+same-length c = pieces-length (c .before .loop .inv)
+
+returns : tie.Need-returns Inv-loop μ-loop
+returns c =
+    let a = c .before .before .before .before .args in
+    rw (gate-lines (a .inputs) (a .gates .now)) (pieces-all (c .before .loop .inv) (c .loop-test .left))
+
+pub put-gates-spec : {M : Type 1} → statement M
+put-gates-spec =
+    tie.close
+    (tie.spec
+    Inv-loop
+    μ-loop
+    cast-count
+    loop-holds
+    cast-place
+    mul-place
+    mul-t15
+    shared-slice-read-t17
+    add-t15
+    mul-t18
+    shared-slice-read-t17-2
+    add-t17
+    add-t20
+    plain-requires
+    put-gate-requires
+    add-k
+    loop-less
+    loop-again
+    same-length
+    returns)

@@ -1,0 +1,64 @@
+-- `text::to_text::put_outputs` meets its contract: after k turns the first k output lines are laid. The measure is what is left of the outputs.
+-- Assumes nothing.
+use Prim.Native.Nat.{_-_}
+use native.Mathlib.Omega.{arith}
+use lib.ListN.{length}
+use Rattle.graph.proofs.Laying.{Pieces, pieces-none, pieces-length, pieces-all, piece-room, piece-then}
+use Rattle.writer.proofs.Writing.{outputLine, output-lines}
+use Rattle.writer.proofs.put.put_outputs.Statement.{statement}
+use Rattle.writer.proofs.put.put_outputs.Tie as tie
+
+abbrev Inv-loop : tie.InvT-loop
+Inv-loop bytes₀ at outputs next₀ k₀ bytes next k = Pieces (outputLine outputs) (length outputs) at bytes₀ k next bytes
+
+abbrev μ-loop : tie.MeasureT-loop
+μ-loop bytes₀ at outputs next₀ k₀ bytes next k = length outputs - k
+
+loop-holds : tie.Need-loop-holds Inv-loop μ-loop
+loop-holds c =
+    let a = c .before .before .args in
+    let os = a .outputs .now in
+    pieces-none (outputLine os) (length os) (a .at) (a .bytes .now) (rw (output-lines os) at (c .before .before .pre))
+
+mul-t6 : tie.Need-mul-t6 Inv-loop μ-loop
+mul-t6 c = omega arith
+
+shared-slice-read-t11 : tie.Need-shared-slice-read-t11 Inv-loop μ-loop
+shared-slice-read-t11 c = omega arith
+
+put-literal-requires : tie.Need-put-literal-requires Inv-loop μ-loop
+put-literal-requires c κs = let turn = c .before .before in piece-room (turn .before .loop .inv) (turn .loop-test .taken)
+
+add-k : tie.Need-add-k Inv-loop μ-loop
+add-k c = omega arith
+
+loop-less : tie.Need-loop-less Inv-loop μ-loop
+loop-less c = omega arith
+
+loop-again : tie.Need-loop-again Inv-loop μ-loop
+loop-again c =
+    let put = c .before .before in
+    let turn = put .before .before .before in
+    piece-then (turn .before .loop .inv) (turn .loop-test .taken) (put .put-literal .ensures)
+
+same-length : tie.Need-same-length Inv-loop μ-loop
+same-length c = pieces-length (c .before .loop .inv)
+
+returns : tie.Need-returns Inv-loop μ-loop
+returns c = rw (output-lines (c .before .before .before .before .args .outputs .now)) (pieces-all (c .before .loop .inv) (c .loop-test .left))
+
+pub put-outputs-spec : {M : Type 1} → statement M
+put-outputs-spec =
+    tie.close
+    (tie.spec
+    Inv-loop
+    μ-loop
+    loop-holds
+    mul-t6
+    shared-slice-read-t11
+    put-literal-requires
+    add-k
+    loop-less
+    loop-again
+    same-length
+    returns)
