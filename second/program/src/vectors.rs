@@ -43,7 +43,7 @@ pub struct Row {
 pub fn print(out: &mut dyn Write) -> io::Result<()> {
     let mut random = Random::new(SEED);
     let samplers = calls::SAMPLERS.into_iter();
-    let each = samplers.flat_map(|(rows, sampler)| iter::repeat(sampler).take(rows));
+    let each = samplers.flat_map(|(rows, sampler)| iter::repeat_n(sampler, rows));
     write!(out, "{HEADER}")?;
     for (number, sampler) in each.enumerate() {
         print_row(number, &sampler(&mut random), out)?;
