@@ -6,7 +6,7 @@
 #[cfg(feature = "proved")]
 mod bench;
 #[cfg(feature = "proved")]
-mod compare_text;
+mod compare;
 mod lister;
 mod shrinker;
 mod source;
@@ -23,7 +23,7 @@ const COMMANDS: &[(&str, Command)] = &[
     ("shrink", shrinker::shrink),
     ("vectors", vectors::print),
     #[cfg(feature = "proved")]
-    ("compare-text", compare_text::compare),
+    ("compare-text", compare::text::compare),
     #[cfg(feature = "proved")]
     ("bench", bench::bench),
 ];

@@ -1,15 +1,13 @@
 //! The texts to compare: stated graphs, damage of every sort, single numbers
 //! and first lines at the limits, rests, noise, long texts.
 
+use crate::compare::Sort;
 use samples::damage::{damaged, ODD_NUMBERS};
 use samples::graphs::{self, Size};
 use samples::texts::{mixed, valid, BAD_RESTS};
 use samples::Random;
 
-type Sort = fn(&mut Random) -> Vec<u8>;
-
-/// Each sort by name, how many texts of it, and how one is drawn.
-pub const SORTS: [(&str, usize, Sort); 9] = [
+pub const SORTS: [Sort<Vec<u8>>; 9] = [
     ("stated graphs, any order, any rest", 5_000, stated),
     ("damaged once to three times", 9_000, wrong),
     ("one number at the edge of its rule", 1_500, edge),

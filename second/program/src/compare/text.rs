@@ -4,88 +4,27 @@
 
 mod texts;
 
+use super::tally::Tally;
+use super::{in_numbers, poisoned, Comparison};
 use model::graph::{MOST_GATES, MOST_OUTPUTS};
-use model::{Graph, Refusal};
+use model::Graph;
 use samples::{edges, graphs, Random};
-use std::fmt::Debug;
 use std::io::{self, Write};
 use std::iter;
 
-const SEED: u64 = 1;
+/// The answers of the two calls.
+const ANSWERS: [u32; 9] = [0, 1, 2, 3, 4, 5, 6, 7, 16];
 const GRAPHS: usize = 4_000;
-const MOST_SHOWN: usize = 5;
-
-/// What was compared, and what came out.
-#[derive(Default)]
-struct Tally {
-    calls: usize,
-    passed: usize,
-    failed: usize,
-    answers: [usize; 17],
-}
-
-impl Tally {
-    /// Counts one text or graph, whose calls all agree or not.
-    fn count<T: Debug>(&mut self, what: &[T], agree: bool, out: &mut dyn Write) -> io::Result<()> {
-        if agree {
-            self.passed += 1;
-            return Ok(());
-        }
-        self.failed += 1;
-        if self.failed <= MOST_SHOWN {
-            writeln!(out, "differs on {what:?}")?;
-        }
-        Ok(())
-    }
-
-    fn answer(&mut self, number: u32) {
-        self.calls += 1;
-        self.answers[number as usize] += 1;
-    }
-
-    /// The answers of the two calls that never came.
-    fn missing(&self) -> Vec<usize> {
-        let possible = (0..=7).chain([16]);
-        possible
-            .filter(|&number| self.answers[number] == 0)
-            .collect()
-    }
-}
 
 pub fn compare(out: &mut dyn Write) -> io::Result<()> {
-    let mut random = Random::new(SEED);
-    let mut tally = Tally::default();
-    for (name, count, sort) in texts::SORTS {
-        writeln!(out, "{count} texts: {name}")?;
-        for text in iter::repeat_with(|| sort(&mut random))
-            .take(count)
-            .collect::<Vec<_>>()
-        {
-            let agree = same_reading(&mut random, &text, &mut tally);
-            tally.count(&text, agree, out)?;
-        }
-    }
-    writeln!(out, "{GRAPHS} graphs and {} edges", edges::edges().len())?;
-    for graph in lent_graphs(&mut random) {
-        let agree = same_writing(&mut random, &graph, &mut tally);
-        tally.count(&[graph], agree, out)?;
-    }
-    report(&tally, out)
-}
-
-fn report(tally: &Tally, out: &mut dyn Write) -> io::Result<()> {
-    write!(out, "{} calls; answers", tally.calls)?;
-    for (number, times) in tally.answers.iter().enumerate() {
-        if *times > 0 {
-            write!(out, " {number}: {times}")?;
-        }
-    }
-    let missing = tally.missing();
-    if !missing.is_empty() {
-        write!(out, "; never {missing:?}")?;
-    }
-    let failed = tally.failed + missing.len();
-    writeln!(out, "\n{} passed, {failed} failed", tally.passed)
+    let mut comparison = Comparison::new(&ANSWERS, out);
+    comparison.sorts("texts", &texts::SORTS, |random, text, tally| {
+        same_reading(random, text, tally)
+    })?;
+    let title = format!("{GRAPHS} graphs and {} edges", edges::edges().len());
+    let graphs = lent_graphs(&mut comparison.random);
+    comparison.samples(&title, graphs, same_writing)?;
+    comparison.report()
 }
 
 // ---- reading
@@ -93,7 +32,8 @@ fn report(tally: &Tally, out: &mut dyn Write) -> io::Result<()> {
 fn same_reading(random: &mut Random, text: &[u8], tally: &mut Tally) -> bool {
     let rooms = rooms(random, text);
     rooms.into_iter().all(|(gates, outputs)| {
-        let mut lent = (poisoned(random, gates), poisoned(random, outputs));
+        let mut words = |length| poisoned(random, length, |word| word as u32);
+        let mut lent = (words(gates), words(outputs));
         let mut other = lent.clone();
         let poison = [random.word() as usize; 3];
         let mut counts = poison;
@@ -103,14 +43,6 @@ fn same_reading(random: &mut Random, text: &[u8], tally: &mut Tally) -> bool {
         tally.answer(number);
         (number, counts) == in_numbers(expected, poison) && lent == other
     })
-}
-
-/// An answer in numbers; what comes with it is as before where it is refused.
-fn in_numbers<T>(answer: Result<T, Refusal>, before: T) -> (u32, T) {
-    match answer {
-        Ok(values) => (0, values),
-        Err(refusal) => (refusal.number(), before),
-    }
 }
 
 /// Words for gates and for outputs: around the need of a graph that is stated,
@@ -132,12 +64,6 @@ fn rooms(random: &mut Random, text: &[u8]) -> Vec<(usize, usize)> {
     rooms
 }
 
-fn poisoned(random: &mut Random, words: usize) -> Vec<u32> {
-    iter::repeat_with(|| random.word() as u32)
-        .take(words)
-        .collect()
-}
-
 // ---- writing
 
 /// Graphs to write: well formed, with one fault, and at every limit.
@@ -157,8 +83,7 @@ fn same_writing(random: &mut Random, graph: &Graph, tally: &mut Tally) -> bool {
     [need - 1, need, need + random.between(1, 99)]
         .into_iter()
         .all(|room| {
-            let mut lent = vec![0; room];
-            lent.fill_with(|| random.word() as u8);
+            let mut lent = poisoned(random, room, |word| word as u8);
             let mut other = lent.clone();
             let poison = random.word() as usize;
             let mut length = poison;
