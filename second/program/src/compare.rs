@@ -3,6 +3,9 @@
 //! alike, and a tally says what came out.
 
 mod tally;
+#[cfg(test)]
+mod tests;
+#[cfg(feature = "proved")]
 pub mod text;
 
 use model::Refusal;
@@ -65,7 +68,8 @@ impl<'a> Comparison<'a> {
         Ok(())
     }
 
-    pub fn report(self) -> io::Result<()> {
+    /// Prints the tally and answers whether nothing failed.
+    pub fn report(self) -> io::Result<bool> {
         self.tally.report(self.out)
     }
 }

@@ -5,7 +5,8 @@
 
 #[cfg(feature = "proved")]
 mod bench;
-#[cfg(feature = "proved")]
+// What comparisons share is tested without the proved calls too.
+#[cfg(any(test, feature = "proved"))]
 mod compare;
 mod lister;
 mod shrinker;
@@ -16,16 +17,22 @@ use std::env;
 use std::io::{self, BufWriter, Write};
 use std::process::ExitCode;
 
-type Command = fn(&mut dyn Write) -> io::Result<()>;
+/// A comparison answers whether nothing failed, and has printed what did.
+#[derive(Clone, Copy)]
+enum Command {
+    Prints(fn(&mut dyn Write) -> io::Result<()>),
+    #[cfg(feature = "proved")]
+    Compares(fn(&mut dyn Write) -> io::Result<bool>),
+}
 
 const COMMANDS: &[(&str, Command)] = &[
-    ("list", lister::list),
-    ("shrink", shrinker::shrink),
-    ("vectors", vectors::print),
+    ("list", Command::Prints(lister::list)),
+    ("shrink", Command::Prints(shrinker::shrink)),
+    ("vectors", Command::Prints(vectors::print)),
     #[cfg(feature = "proved")]
-    ("compare-text", compare::text::compare),
+    ("compare-text", Command::Compares(compare::text::compare)),
     #[cfg(feature = "proved")]
-    ("bench", bench::bench),
+    ("bench", Command::Prints(bench::bench)),
 ];
 
 /// The command that the arguments name, if they name one and nothing else.
@@ -38,10 +45,16 @@ fn chosen() -> Option<Command> {
     named.map(|&(_, command)| command)
 }
 
-fn run(command: Command) -> io::Result<()> {
+/// Whether the command succeeded.
+fn run(command: Command) -> io::Result<bool> {
     let mut out = BufWriter::new(io::stdout().lock());
-    command(&mut out)?;
-    out.flush()
+    let succeeded = match command {
+        Command::Prints(print) => print(&mut out).map(|()| true)?,
+        #[cfg(feature = "proved")]
+        Command::Compares(compare) => compare(&mut out)?,
+    };
+    out.flush()?;
+    Ok(succeeded)
 }
 
 fn main() -> ExitCode {
@@ -51,7 +64,8 @@ fn main() -> ExitCode {
         return ExitCode::from(2);
     };
     match run(command) {
-        Ok(()) => ExitCode::SUCCESS,
+        Ok(true) => ExitCode::SUCCESS,
+        Ok(false) => ExitCode::FAILURE,
         Err(error) => {
             eprintln!("second: {error}");
             ExitCode::FAILURE

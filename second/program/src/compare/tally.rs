@@ -54,8 +54,9 @@ impl Tally {
         missing
     }
 
-    /// Prints what was counted; a missing answer is a failure.
-    pub fn report(&self, out: &mut dyn Write) -> io::Result<()> {
+    /// Prints what was counted and answers whether nothing failed; a missing
+    /// answer is a failure.
+    pub fn report(&self, out: &mut dyn Write) -> io::Result<bool> {
         let calls: usize = self.answers.values().sum();
         write!(out, "{calls} calls; answers")?;
         for (number, times) in &self.answers {
@@ -66,6 +67,7 @@ impl Tally {
             write!(out, "; never {missing:?}")?;
         }
         let failed = self.failed + missing.len();
-        writeln!(out, "\n{} passed, {failed} failed", self.passed)
+        writeln!(out, "\n{} passed, {failed} failed", self.passed)?;
+        Ok(failed == 0)
     }
 }

@@ -16,7 +16,7 @@ use std::iter;
 const ANSWERS: [u32; 9] = [0, 1, 2, 3, 4, 5, 6, 7, 16];
 const GRAPHS: usize = 4_000;
 
-pub fn compare(out: &mut dyn Write) -> io::Result<()> {
+pub fn compare(out: &mut dyn Write) -> io::Result<bool> {
     let mut comparison = Comparison::new(&ANSWERS, out);
     comparison.sorts("texts", &texts::SORTS, |random, text, tally| {
         same_reading(random, text, tally)
