@@ -12,7 +12,7 @@ use lib.ListN.{length, getD}
 use Rattle.graph.specs.Lists.{every, allBelow, all}
 use Rattle.graph.specs.Graph.{netOf, graphOf, gateOk, sinkOk, rules, wellFormed, mostInputs, mostOutputs, mostGates}
 use Rattle.graph.proofs.Lists.{every-at, allBelow-at, all-at}
-use Rattle.graph.proofs.WellFormed.{first-at, second-at}
+use Rattle.graph.proofs.Graph.{first-at, second-at}
 
 -- where c holds if b does, a c that fails decides b
 fails-with : (b c : Bool) → (b ≡ true → c ≡ true) → c ≡ false → b ≡ false

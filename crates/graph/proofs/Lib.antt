@@ -1,7 +1,7 @@
 pub mod Lists
 pub mod Members
 pub mod Gather
-pub mod WellFormed
+pub mod Graph
 pub mod Sweep
 pub mod Values
 pub mod Marks
@@ -10,10 +10,10 @@ pub mod Renumber
 pub mod Stand
 pub mod Drop
 pub mod DropKeeps
-pub mod Settles
+pub mod Refuse
 pub mod Rows
 pub mod Tests
-pub mod EvaluateRefusals
+pub mod Evaluate
 pub mod Gathered
 pub mod Laying
 pub mod StoredWords

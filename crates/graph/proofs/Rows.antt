@@ -12,7 +12,7 @@ use lib.Dec.{leb, ltb}
 use Rattle.graph.specs.declared.refusal.Refusal.{Refusal}
 use Rattle.graph.specs.Refuse.{Row, firstRefusal, numberOf, Lowest}
 use Rattle.graph.proofs.Lists.{and-left, and-right}
-use Rattle.graph.proofs.Settles.{Settles, gives, clears, settles-lowest, settles-none}
+use Rattle.graph.proofs.Refuse.{Settles, gives, clears, settles-lowest, settles-none}
 
 -- the rows' numbers ascend, all above n
 unfoldable pub ascends : ℕ → List Row → Bool

@@ -14,12 +14,12 @@ use lib.ListN.{length, getD, take, length-append, List·getD-append, List·getD-
 use lib.Seq.{getD-at, take-at}
 use Rattle.graph.specs.Literal.{varOf, isOdd}
 use Rattle.graph.specs.Graph.{Net, free, first, second}
-use Rattle.graph.specs.Sweep.{Kind, turned, litValue, byGate, values, valueAt}
+use Rattle.graph.specs.Sweep.{Algebra, turned, litValue, byGate, values, valueAt}
 use Rattle.graph.proofs.Lists.{at-most-or-above}
 
 -- ---- lengths and single steps
 
-module _ {A : Type 0} (K : Kind A) (own : ℕ → Option A) (net : Net) where
+module _ {A : Type 0} (K : Algebra A) (own : ℕ → Option A) (net : Net) where
   pub values-length : (n : ℕ) → length (values K own net n) ≡ suc n
   unfolding values
   values-length zero = refl
@@ -50,7 +50,7 @@ module _ {A : Type 0} (K : Kind A) (own : ℕ → Option A) (net : Net) where
 
 -- ---- gates
 
-module _ {A : Type 0} (K : Kind A) (net : Net) (v : ℕ) (vs : List A) where
+module _ {A : Type 0} (K : Algebra A) (net : Net) (v : ℕ) (vs : List A) where
   pub byGate-free : v ≤ free net → byGate K net v vs ≡ K .no
   unfolding byGate
   byGate-free h = rw (le-leb v (free net) h)
@@ -59,7 +59,7 @@ module _ {A : Type 0} (K : Kind A) (net : Net) (v : ℕ) (vs : List A) where
   unfolding byGate
   byGate-gate h = rw (lt-leb v (free net) h)
 
-module _ {A : Type 0} (K : Kind A) (own : ℕ → Option A) (net : Net) (n : ℕ) where
+module _ {A : Type 0} (K : Algebra A) (own : ℕ → Option A) (net : Net) (n : ℕ) where
   pub own-value : (x : A) → own (suc n) ≡ some x → valueAt K own net (suc n) ≡ x
   unfolding valueAt
   own-value x e = values-top K own net n (K .no) ∙ ap (λ (o : Option A). Option·getD o (byGate K net (suc n) (values K own net n))) e
@@ -79,7 +79,7 @@ pub record SameUpTo (net net′ : Net) (n : ℕ) : Type 0 where
   pub same-first : (v : ℕ) → free net < v → v ≤ n → first net v ≡ first net′ v
   pub same-second : (v : ℕ) → free net < v → v ≤ n → second net v ≡ second net′ v
 
-module _ {A : Type 0} (K : Kind A) (net net′ : Net) where
+module _ {A : Type 0} (K : Algebra A) (net net′ : Net) where
   byGate-same : (n v : ℕ) (vs : List A) → SameUpTo net net′ n → v ≤ n → byGate K net v vs ≡ byGate K net′ v vs
   byGate-same n v vs s h = ⊎-elim
       (λ l. byGate-free K net v vs l ∙ sym (byGate-free K net′ v vs (omega (arith, s .same-free))))
@@ -113,12 +113,12 @@ own-map : {A B : Type 0} (h : A → B) (o : Option A) (x : A) → h (Option·get
 own-map h none x = refl
 own-map h (some a) x = refl
 
-pub record Respects {A B : Type 0} (h : A → B) (K : Kind A) (L : Kind B) : Type 0 where
+pub record Respects {A B : Type 0} (h : A → B) (K : Algebra A) (L : Algebra B) : Type 0 where
   pub keeps-no : h (K .no) ≡ L .no
   pub keeps-conj : (x y : A) → h (K .conj x y) ≡ L .conj (h x) (h y)
   pub keeps-neg : (x : A) → h (K .neg x) ≡ L .neg (h x)
 
-module _ {A B : Type 0} (h : A → B) (K : Kind A) (L : Kind B) (r : Respects h K L) where
+module _ {A B : Type 0} (h : A → B) (K : Algebra A) (L : Algebra B) (r : Respects h K L) where
   pub turned-map : (b : Bool) (x : A) → h (turned K b x) ≡ turned L b (h x)
   unfolding turned
   turned-map true x = r .keeps-neg x

@@ -9,8 +9,8 @@ use lib.Dec.{leb, eqb}
 use lib.ListN.{length, getD}
 use Rattle.graph.specs.declared.refusal.Refusal.{Refusal}
 use Rattle.graph.specs.declared.refusal.Refusal.the-variants.{BadGraph, BadAssignment, NoRoom}
-use Rattle.graph.specs.declared.evaluate.Evaluated.{Evaluated}
-use Rattle.graph.specs.declared.evaluate.Evaluated.the-variants.{Outputs, Refused}
+use Rattle.graph.specs.declared.evaluated.Evaluated.{Evaluated}
+use Rattle.graph.specs.declared.evaluated.Evaluated.the-variants.{Outputs, Refused}
 use Rattle.graph.specs.Lists.{all}
 use Rattle.graph.specs.Lent.{short, written, Effect, _leaving_}
 use Rattle.graph.specs.Refuse.{Row, _⇒_, firstRefusal, Outcome, accepted, refused}

@@ -77,6 +77,11 @@ accepted xs = record { number = 0; values = xs }
 abbrev pub refused : Refusal → Outcome
 refused r = record { number = numberOf r; values = [] }
 
+-- the same by a verdict, where the values stand beside it
+unfoldable pub verdictOutcome : Verdict → List ℕ → Outcome
+verdictOutcome (Verdict.Fine) xs = accepted xs
+verdictOutcome (Verdict.Refused r) xs = refused r
+
 -- of the refusals that are given for something, the one with the lowest number
 pub record Lowest (given : Refusal → Type 0) (r : Refusal) : Type 0 where
   pub holds : given r

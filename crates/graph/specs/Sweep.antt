@@ -11,31 +11,31 @@ use Rattle.graph.specs.Literal.{varOf, isOdd}
 use Rattle.graph.specs.Graph.{Net, free, first, second}
 
 -- a kind of value: what variable 0 has, the AND, the complement
-pub record Kind (A : Type 0) : Type 0 where
+pub record Algebra (A : Type 0) : Type 0 where
   pub no : A
   pub conj : A → A → A
   pub neg : A → A
 
-unfoldable pub bools : Kind Bool
+unfoldable pub bools : Algebra Bool
 bools = record { no = false; conj = _&&_; neg = not }
 
 -- x, complemented where the test holds
-unfoldable pub turned : {A : Type 0} → Kind A → Bool → A → A
+unfoldable pub turned : {A : Type 0} → Algebra A → Bool → A → A
 turned K true x = K .neg x
 turned K false x = x
 
 -- the value of the literal l, where vs has the values of the variables from 0 on
-unfoldable pub litValue : {A : Type 0} → Kind A → List A → ℕ → A
+unfoldable pub litValue : {A : Type 0} → Algebra A → List A → ℕ → A
 unfolding turned
 litValue K vs l = turned K (isOdd l) (getD vs (varOf l) (K .no))
 
 -- what variable v has by its gate, where vs has the values below v; a variable that is no gate has what 0 has
-unfoldable pub byGate : {A : Type 0} → Kind A → Net → ℕ → List A → A
+unfoldable pub byGate : {A : Type 0} → Algebra A → Net → ℕ → List A → A
 unfolding first second litValue
 byGate K net v vs = cond (leb v (free net)) (K .no) (K .conj (litValue K vs (first net v)) (litValue K vs (second net v)))
 
 -- the values of the variables 0 to n; `own` gives an input or a leaf its own value, the others have theirs by their gates
-module _ {A : Type 0} (K : Kind A) (own : ℕ → Option A) (net : Net) where
+module _ {A : Type 0} (K : Algebra A) (own : ℕ → Option A) (net : Net) where
   unfoldable pub values : ℕ → List A
   unfolding byGate
   values zero = K .no ∷ []

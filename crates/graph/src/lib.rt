@@ -1,11 +1,11 @@
 // What a graph is and means: literals and variables, the limits, and why a call refuses.
-mod evaluate;
+mod evaluated;
 mod limits;
 mod lit;
 mod refusal;
 mod verdict;
 
-pub use evaluate::Evaluated;
+pub use evaluated::Evaluated;
 pub use limits::MOST_GATES;
 pub use limits::MOST_INPUTS;
 pub use limits::MOST_OUTPUTS;

@@ -8,8 +8,8 @@ use native.Mathlib.Omega.{arith}
 use Rattle.graph.specs.Lists.{_∈_, here, gather}
 use Rattle.graph.specs.Graph.{Net, Graph}
 use Rattle.graph.proofs.Members.{in-gather, in-left, in-right, in-same}
-use Rattle.window.specs.declared.Leaves.{Leaves}
-use Rattle.replacement.specs.declared.Proposal.{Proposal}
+use Rattle.window.specs.declared.leaf_set.Leaves.{Leaves}
+use Rattle.replacement.specs.declared.types.Proposal.{Proposal}
 use Rattle.replacement.specs.Proposal.{literal, andGate, Allowed, a-literal, an-and}
 use Rattle.listing.specs.Listing.{candidates, candidateOf, Before, by-kind, by-first, by-second, by-turned}
 use Rattle.listing.proofs.Each.{Each, each-one, each-gather}

@@ -2,5 +2,5 @@ pub mod Each
 pub mod Sorted
 pub mod Order
 pub mod Candidates
-pub mod TheList
-pub mod Refusals
+pub mod Listing
+pub mod Calls

@@ -10,7 +10,7 @@ use Rattle.graph.specs.declared.refusal.Refusal.the-variants.{NoRoom}
 use Rattle.graph.specs.Lent.{short, written, Effect, _leaving_}
 use Rattle.graph.specs.Refuse.{firstRefusal, Outcome, accepted, refused, numberOf}
 use Rattle.graph.specs.Graph.{Graph}
-use Rattle.window.specs.declared.Leaves.{Leaves}
+use Rattle.window.specs.declared.leaf_set.Leaves.{Leaves}
 use Rattle.window.specs.Calls.{windowRefusals, WindowGiven}
 use Rattle.listing.specs.declared.Candidate.{Candidate}
 use Rattle.listing.specs.declared.Listed.{Listed}

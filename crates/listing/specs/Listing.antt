@@ -8,8 +8,8 @@ use mathlib.Core.Logic.{_↔_}
 use lib.IntN.{pos, natAbs}
 use Rattle.graph.specs.Lists.{gather, keep, _∈_}
 use Rattle.graph.specs.Graph.{Graph}
-use Rattle.window.specs.declared.Leaves.{Leaves}
-use Rattle.replacement.specs.declared.Proposal.{Proposal}
+use Rattle.window.specs.declared.leaf_set.Leaves.{Leaves}
+use Rattle.replacement.specs.declared.types.Proposal.{Proposal}
 use Rattle.window.specs.Table.{table}
 use Rattle.replacement.specs.Proposal.{literal, andGate, allowed, Allowed, proposedTable}
 use Rattle.replacement.specs.Rewire.{gain, atLeastOne}

@@ -10,16 +10,17 @@ use native.Mathlib.Omega.{arith}
 use lib.ListN.{length, getD, take, length-map}
 use Rattle.graph.specs.declared.refusal.Refusal.{Refusal}
 use Rattle.graph.specs.declared.refusal.Refusal.the-variants.{BadGraph, BadRoot, NoRoom}
-use Rattle.graph.specs.declared.evaluate.Evaluated.the-variants.{Outputs}
-use Rattle.graph.specs.Refuse.{firstRefusal}
+use Rattle.graph.specs.declared.evaluated.Evaluated.the-variants.{Outputs}
+use Rattle.graph.specs.declared.verdict.Verdict.{Verdict}
+use Rattle.graph.specs.Refuse.{firstRefusal, verdictOutcome}
 use Rattle.graph.specs.Lists.{filled}
 use Rattle.graph.specs.Lent.{short, Buffers, noRoomFor, storedIn}
 use Rattle.graph.specs.Graph.{Graph, size, sinks, WellFormed}
 use Rattle.graph.specs.Use.{usedGates}
 use Rattle.graph.specs.Evaluate.{outputsUnder, assignmentOf, evaluateRefusals, evaluateEffect, evaluatedOutcome}
-use Rattle.graph.proofs.WellFormed.{well-formed-iff}
+use Rattle.graph.proofs.Graph.{well-formed-iff}
 use Rattle.graph.proofs.Use.{in-use-iff}
-use Rattle.graph.proofs.Settles.{none-shown, numberOf-not-zero}
+use Rattle.graph.proofs.Refuse.{none-shown, numberOf-not-zero}
 use Rattle.graph.proofs.Tests.{eqb-iff}
 use Rattle.text.specs.declared.ReadText.{ReadText}
 use Rattle.text.specs.declared.WrittenText.{WrittenText}
@@ -30,30 +31,29 @@ use Rattle.text.specs.Calls.{withRoom, readEffect, readOutcome, writeRefusals, 
 use Rattle.text.proofs.Reading.{reading-iff, reads-graph}
 use Rattle.text.proofs.Refusals.{write-answers}
 use Rattle.text.proofs.RoundTrip.{round-trip}
-use Rattle.window.specs.declared.Leaves.{Leaves}
-use Rattle.window.specs.declared.RootTable.{RootTable}
+use Rattle.window.specs.declared.leaf_set.Leaves.{Leaves}
 use Rattle.window.specs.Leaves.{WellSet}
 use Rattle.window.specs.Local.{Covered}
 use Rattle.window.specs.Table.{table}
 use Rattle.window.specs.LeafRule.{picked}
-use Rattle.window.specs.Calls.{RootGiven, rootRefusals, pickAnswer, verdictOutcome, pickOutcome, windowRefusals, tableAnswer, tableOutcome}
-use Rattle.window.proofs.Refusals.{pick-answers}
+use Rattle.window.specs.Calls.{RootGiven, rootRefusals, pickAnswer, pickOutcome, windowRefusals, tableAnswer, tableOutcome}
+use Rattle.window.proofs.Calls.{pick-answers}
 use Rattle.window.proofs.LeafRule.{picked-well-set, picked-cuts}
-use Rattle.replacement.specs.declared.Proposal.{Proposal}
-use Rattle.replacement.specs.declared.Applied.{Applied}
+use Rattle.replacement.specs.declared.types.Proposal.{Proposal}
+use Rattle.replacement.specs.declared.types.Applied.{Applied}
 use Rattle.replacement.specs.Rewire.{finished}
 use Rattle.replacement.specs.Calls.{applyEffect, appliedOutcome}
-use Rattle.replacement.proofs.Refusals.{apply-none-given}
+use Rattle.replacement.proofs.Calls.{apply-none-given}
 use Rattle.listing.specs.declared.Candidate.{Candidate}
 use Rattle.listing.specs.declared.Listed.{Listed}
 use Rattle.listing.specs.Listing.{listed, IsTheList}
 use Rattle.listing.specs.Calls.{withList, listEffect, listedOutcome}
-use Rattle.listing.proofs.TheList.{listed-is}
+use Rattle.listing.proofs.Listing.{listed-is}
 use Rattle.run.specs.declared.Ran.{Ran}
 use Rattle.run.specs.Run.{run}
 use Rattle.run.specs.Calls.{RunBuffers, RunGiven, runRefusals, filledIn, runEffect, ranOutcome}
 use Rattle.run.proofs.Run.{run-well-formed, run-no-larger}
-use Rattle.run.proofs.Refusals.{run-answers}
+use Rattle.run.proofs.Calls.{run-answers}
 use Rattle.promises.specs.Promises.{Keeps, Stored, Holds}
 use Rattle.promises.proofs.Meaning.{run-keeps, replacement-keeps, replacement-leaves-fewer-gates}
 use Rattle.promises.proofs.Stored.{stored-written, holds-stored, filled-all}
@@ -78,12 +78,12 @@ module _ (t : List ℕ) (b : Buffers) (accepted : (readOutcome ((readEffect t b)
       go (refuses r) e = absurd (numberOf-not-zero r (sym accepted ∙ rw (e, readEffect, withRoom)))
       go (yields g) e = (g, e, room g e (noRoomFor g b) refl)
 
-  pub read-leaves-stated :
+  pub read-stores-stated :
       (g : Graph)
       × Stated t g
       × ((readEffect t b) .answer ≡ ReadText.Graph (g .net .inputs) (size (g .net)) (length (g .outputs)))
       × Holds g b ((readEffect t b) .lent)
-  read-leaves-stated =
+  read-stores-stated =
       let (g, e, room) = read-yields in
       let stated = reading-iff t g .0 e in
       rw (reads-graph t b g e room) (g, stated, refl, holds-stored g b (stated .well-formed))
@@ -95,16 +95,16 @@ module _ (g : Graph) (lent : List ℕ) (accepted : (writtenOutcome ((writeEffect
   unfolding writeEffect writtenOutcome
   write-none = none-shown (firstRefusal (writeRefusals g lent)) _ (λ q e. rw (e, writeEffect)) accepted
 
-  pub write-leaves-text :
+  pub write-stores-text :
       WellFormed g × ((writeEffect g lent) .answer ≡ WrittenText.Bytes (length (textOf g))) × Stored (textOf g) lent ((writeEffect g lent) .lent)
   unfolding writeEffect
-  write-leaves-text =
+  write-stores-text =
       let ok = decided _ (well-formed-iff g) (λ n. write-answers g lent .accepts .0 accepted BadGraph (WriteGiven.bad-graph n)) in
       rw (write-none, writeEffect) (ok, refl, stored-written (textOf g) lent)
 
   -- the bytes written are read back as the graph
   pub write-then-read : reading (take (length (textOf g)) ((writeEffect g lent) .lent)) ≡ yields g
-  write-then-read = let (ok, _, stored) = write-leaves-text in ap reading (stored .first-places) ∙ round-trip g ok
+  write-then-read = let (ok, _, stored) = write-stores-text in ap reading (stored .first-places) ∙ round-trip g ok
 
 -- ---- evaluating
 
@@ -123,11 +123,11 @@ module _ (g : Graph) (vs lent : List ℕ) (accepted : (evaluatedOutcome ((evalua
   unfolding evaluateEffect evaluatedOutcome
   evaluate-none = none-shown (firstRefusal (evaluateRefusals g vs lent)) _ (λ q e. rw (e, evaluateEffect)) accepted
 
-  pub evaluate-leaves-outputs :
+  pub evaluate-stores-outputs :
       ((evaluateEffect g vs lent) .answer ≡ Outputs (length (sinks g)))
       × Stored (map (λ b. cond b 1 0) (outputsUnder g (assignmentOf vs))) lent ((evaluateEffect g vs lent) .lent)
   unfolding evaluateEffect
-  evaluate-leaves-outputs = rw (evaluate-none, evaluateEffect) (refl, stored-written _ lent)
+  evaluate-stores-outputs = rw (evaluate-none, evaluateEffect) (refl, stored-written _ lent)
 
 -- ---- picking leaves, and the root's table
 
@@ -151,10 +151,10 @@ module _ (g : Graph) (root : ℕ) (accepted : (pickOutcome (pickAnswer g root)) 
 
 module _ (g : Graph) (root : ℕ) (w : Leaves) (accepted : (tableOutcome (tableAnswer g root w)) .number ≡ 0) where
   table-none : firstRefusal (windowRefusals g root w) ≡ none
-  unfolding tableAnswer tableOutcome
+  unfolding tableAnswer tableOutcome verdictOutcome
   table-none = none-shown (firstRefusal (windowRefusals g root w)) _ (λ q e. rw (e, tableAnswer)) accepted
 
-  pub table-answers-table : tableAnswer g root w ≡ RootTable.Table (table (g .net) w root)
+  pub table-answers-table : tableAnswer g root w ≡ record { verdict = Verdict.Fine; table = record { 0 = table (g .net) w root } }
   unfolding tableAnswer
   table-answers-table = rw (table-none, tableAnswer)
 
@@ -171,24 +171,24 @@ module _ (g : Graph) (root : ℕ) (w : Leaves) (lent : List Candidate) (accepted
       go none e true h = absurd (numberOf-not-zero NoRoom (sym accepted ∙ rw (e, listEffect, h, withList)))
       go none e false h = (e, h)
 
-  pub list-leaves-the-list :
+  pub list-stores-the-list :
       ((listEffect g root w lent) .answer ≡ Listed.Records (length (listed g root w)))
       × Stored (listed g root w) lent ((listEffect g root w lent) .lent)
       × IsTheList g root w (listed g root w)
   unfolding listEffect withList
-  list-leaves-the-list =
+  list-stores-the-list =
       let (e, h) = list-none in rw (e, listEffect, h, withList) (refl, stored-written (listed g root w) lent, listed-is g root w)
 
 -- ---- applying a proposal
 
 module _ (g : Graph) (root : ℕ) (w : Leaves) (p : Proposal) (b : Buffers) (accepted : (appliedOutcome ((applyEffect g root w p b) .answer)) .number ≡ 0) where
-  pub apply-leaves-finished :
+  pub apply-stores-finished :
       ((applyEffect g root w p b) .answer ≡ Applied.Graph (size (finished g root p .net)) (length (finished g root p .outputs)))
       × Holds (finished g root p) b ((applyEffect g root w p b) .lent)
       × Keeps g (finished g root p)
       × (usedGates (finished g root p) < usedGates g)
   unfolding applyEffect
-  apply-leaves-finished =
+  apply-stores-finished =
       let kept = replacement-keeps g root w p b accepted in
       rw (apply-none-given g root w p b accepted, applyEffect) (refl, holds-stored (finished g root p) b (kept .well-formed), kept, replacement-leaves-fewer-gates g root w p b accepted)
 
@@ -208,7 +208,7 @@ module _ (g : Graph) (b : RunBuffers) (accepted : (ranOutcome ((runEffect g b) .
   run-none = none-shown (firstRefusal (runRefusals g b)) _ (λ q e. rw (e, runEffect)) accepted
 
   -- the finished graph and then 0 in the source graph's places of the result, and 0 in those of the work area
-  pub run-leaves-finished :
+  pub run-stores-finished :
       ((runEffect g b) .answer ≡ Ran.Finished (size (run g .graph .net)) (run g .made))
       × (length (run g .graph .net .gates) ≤ length (g .net .gates))
       × Stored (filled (length (g .net .gates)) (run g .graph .net .gates)) (b .result .gates) ((runEffect g b) .lent .result .gates)
@@ -217,7 +217,7 @@ module _ (g : Graph) (b : RunBuffers) (accepted : (ranOutcome ((runEffect g b) .
       × Stored (filled (length (g .outputs)) []) (b .work .outputs) ((runEffect g b) .lent .work .outputs)
       × Keeps g (run g .graph)
   unfolding runEffect filledIn storedIn
-  run-leaves-finished =
+  run-stores-finished =
       let ok = decided _ (well-formed-iff g) (λ n. run-answers g b .accepts .0 accepted BadGraph (RunGiven.bad-graph n)) in
       let kept = run-keeps g ok in
       rw (run-none, runEffect, filled-all (length (g .outputs)) (run g .graph .outputs) (keeps-output-count kept))

@@ -20,7 +20,7 @@ use Rattle.text.proofs.Reading.{reading-iff, reads-graph}
 use Rattle.text.proofs.Refusals.{write-answers}
 use Rattle.promises.specs.Promises.{Holds, readBack}
 use Rattle.promises.proofs.Stored.{holds-stored}
-use Rattle.promises.proofs.Accepted.{read-leaves-stated, write-leaves-text, write-then-read}
+use Rattle.promises.proofs.Accepted.{read-stores-stated, write-stores-text, write-then-read}
 
 -- ---- one result
 
@@ -56,7 +56,7 @@ module _ (t : List ℕ) (b after : Buffers) (r : ReadText) (met : r leaving afte
 
     pub read-was-stated : (g : Graph) × Stated t g × (ReadText.Graph i a o ≡ ReadText.Graph (g .net .inputs) (size (g .net)) (length (g .outputs))) × Holds g b after
     read-was-stated =
-        let (g, stated, answer, holds) = read-leaves-stated t b number-is in
+        let (g, stated, answer, holds) = read-stores-stated t b number-is in
         (g, stated, sym answer-is ∙ answer, subst⁻¹ (Holds g b) (ap (λ (e : Effect ReadText Buffers). e .lent) met) holds)
 
 -- ---- written and read again
@@ -72,12 +72,12 @@ module _ (g : Graph) (lent bytes : List ℕ) (n : ℕ) (written-now : WrittenTex
 
   n-is : n ≡ length (textOf g)
   unfolding bytes-of
-  n-is = ap (λ (e : Effect WrittenText (List ℕ)). bytes-of (e .answer)) written-now ∙ ap bytes-of (write-leaves-text g lent accepted .1)
+  n-is = ap (λ (e : Effect WrittenText (List ℕ)). bytes-of (e .answer)) written-now ∙ ap bytes-of (write-stores-text g lent accepted .1)
 
   -- the bytes written are among those lent
   pub written-is-within : n ≤ length bytes
   written-is-within =
-      let stored = ap length (write-leaves-text g lent accepted .2 .first-places) in
+      let stored = ap length (write-stores-text g lent accepted .2 .first-places) in
       let same = ap (λ (e : Effect WrittenText (List ℕ)). length (e .lent)) written-now in
       omega (arith, n-is, simp length-take at stored)
 

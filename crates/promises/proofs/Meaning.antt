@@ -20,13 +20,13 @@ use Rattle.text.specs.Reading.{Stated, mostBytes, yields, reading}
 use Rattle.text.proofs.States.{states-one, text-of-states}
 use Rattle.text.proofs.Reading.{reading-iff}
 use Rattle.text.proofs.RoundTrip.{text-of-short, round-trip}
-use Rattle.window.specs.declared.Leaves.{Leaves}
-use Rattle.window.proofs.Coverage.{covered-iff}
-use Rattle.replacement.specs.declared.Proposal.{Proposal}
+use Rattle.window.specs.declared.leaf_set.Leaves.{Leaves}
+use Rattle.window.proofs.Local.{covered-iff}
+use Rattle.replacement.specs.declared.types.Proposal.{Proposal}
 use Rattle.replacement.specs.Rewire.{finished}
 use Rattle.replacement.specs.Calls.{applyEffect, appliedOutcome}
 use Rattle.replacement.proofs.Finished.{finished-free, finished-all-reached, finished-well-formed, Fits, finished-keeps-outputs}
-use Rattle.replacement.proofs.Refusals.{Accepted, apply-accepted}
+use Rattle.replacement.proofs.Calls.{Accepted, apply-accepted}
 use Rattle.run.specs.Run.{run}
 use Rattle.run.proofs.Run.{run-keeps-inputs, run-keeps-outputs, run-well-formed, run-all-reached}
 use Rattle.promises.specs.Promises.{Keeps}

@@ -9,15 +9,15 @@ use Rattle.graph.specs.Lists.{_∈_}
 use Rattle.graph.specs.Graph.{Net, Graph, free, IsGate, WellFormed}
 use Rattle.graph.specs.Drop.{dropped}
 use Rattle.graph.specs.Evaluate.{valueUnder}
-use Rattle.window.specs.declared.Leaves.{Leaves}
+use Rattle.window.specs.declared.leaf_set.Leaves.{Leaves}
 use Rattle.window.specs.Leaves.{leafLimit, leafList, WellSet}
 use Rattle.window.specs.Local.{Covered, covered, localAt}
 use Rattle.window.specs.LeafRule.{withFanins, expand, ruleLeaves, picked, Follows}
-use Rattle.window.proofs.Coverage.{covered-value}
+use Rattle.window.proofs.Local.{covered-value}
 use Rattle.window.proofs.LeafRule.{rule-follows, rule-only, picked-well-set, picked-cuts, picked-no-expansion}
 use Rattle.listing.specs.declared.Candidate.{Candidate}
 use Rattle.listing.specs.Listing.{listed, Ascending, IsTheList}
-use Rattle.listing.proofs.TheList.{listed-is, the-list}
+use Rattle.listing.proofs.Listing.{listed-is, the-list}
 use Rattle.listing.proofs.Order.{ascending-once}
 use Rattle.run.specs.Run.{run, NoneAt, Steps}
 use Rattle.run.proofs.Run.{run-steps, run-ends}
@@ -72,5 +72,5 @@ module _ (g : Graph) (ok : WellFormed g) where
   pub run-is-one : (n : ℕ) (e : Graph) → Steps (dropped g) n e → (n ≡ run g .made) × (e ≡ run g .graph)
   run-is-one = run-only g ok
 
-  pub run-leaves-nothing : (v : ℕ) → IsGate (run g .graph .net) v → NoneAt (run g .graph) v
-  run-leaves-nothing = run-ends g ok
+  pub run-writes-nothing-nothing : (v : ℕ) → IsGate (run g .graph .net) v → NoneAt (run g .graph) v
+  run-writes-nothing-nothing = run-ends g ok

@@ -11,7 +11,7 @@ use Rattle.window.specs.Leaves.{leavesOf}
 use Rattle.window.specs.LeafRule.{picked}
 use Rattle.replacement.specs.Proposal.{literal, andGate}
 use Rattle.run.specs.Run.{run}
-use Rattle.promises.specs.Calls.{Row, _gives_, buffers, readCall, pickCall, tableCall, listCall, applyCall, runCall}
+use Rattle.promises.specs.Calls.{Example, _gives_, buffers, readCall, pickCall, tableCall, listCall, applyCall, runCall}
 
 unfoldable pub bytes : String → List ℕ
 bytes empty = []
@@ -44,7 +44,7 @@ e11 = graphIn "aag 4 2 0 1 2\n2\n4\n8\n6 5 3\n8 7 2\n"
 abbrev pub e12 : String
 e12 = "aag 0 0 0 0 0\n"
 
-unfoldable pub bench : List Row
+unfoldable pub bench : List Example
 unfolding e1 e9 e10 e11 bytes graphIn leavesOf picked run textOf readCall pickCall tableCall listCall applyCall runCall
 bench =
     -- P1 to P3: the table of variable 4, the leaves that the rule picks, and the list over them

@@ -10,9 +10,9 @@ use Rattle.graph.specs.Graph.{Graph}
 use Rattle.graph.specs.Lent.{Buffers}
 use Rattle.graph.specs.Evaluate.{evaluateEffect, evaluatedOutcome}
 use Rattle.text.specs.Calls.{readEffect, readOutcome, writeEffect, writtenOutcome}
-use Rattle.window.specs.declared.Leaves.{Leaves}
+use Rattle.window.specs.declared.leaf_set.Leaves.{Leaves}
 use Rattle.window.specs.Calls.{pickAnswer, pickOutcome, tableAnswer, tableOutcome}
-use Rattle.replacement.specs.declared.Proposal.{Proposal}
+use Rattle.replacement.specs.declared.types.Proposal.{Proposal}
 use Rattle.replacement.specs.Calls.{applyEffect, appliedOutcome}
 use Rattle.listing.specs.declared.Candidate.{Candidate}
 use Rattle.listing.specs.Listing.{fields}
@@ -79,12 +79,12 @@ runCall g result work =
 -- ---- rows of examples
 
 -- what a call gives, and what it should
-pub record Row : Type 0 where
+pub record Example : Type 0 where
   pub given : List ℕ
   pub says : List ℕ
 
 infix 70 _gives_
-abbrev pub _gives_ : List ℕ → List ℕ → Row
+abbrev pub _gives_ : List ℕ → List ℕ → Example
 xs gives ys = record { given = xs; says = ys }
 
 unfoldable pub same : List ℕ → List ℕ → Bool
@@ -93,7 +93,7 @@ same [] (y ∷ ys) = false
 same (x ∷ xs) [] = false
 same (x ∷ xs) (y ∷ ys) = eqb x y && same xs ys
 
-unfoldable pub agree : List Row → Bool
+unfoldable pub agree : List Example → Bool
 unfolding same
 agree [] = true
 agree (r ∷ rs) = same (r .given) (r .says) && agree rs

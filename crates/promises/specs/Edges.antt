@@ -7,7 +7,7 @@ use lib.ListN.{replicate}
 use Rattle.graph.specs.Graph.{graphOf}
 use Rattle.window.specs.Leaves.{variables, leavesOf}
 use Rattle.replacement.specs.Proposal.{literal}
-use Rattle.promises.specs.Calls.{Row, _gives_, buffers, readCall, writeCall, evaluateCall, pickCall, tableCall, applyCall}
+use Rattle.promises.specs.Calls.{Example, _gives_, buffers, readCall, writeCall, evaluateCall, pickCall, tableCall, applyCall}
 use Rattle.promises.specs.Bench.{bytes, e1}
 
 -- the answer to a text where nothing has room
@@ -20,7 +20,7 @@ unfoldable pub restOf : ℕ → List ℕ
 unfolding bytes
 restOf n = bytes "aag 0 0 0 0 0\n" ++ replicate n 99
 
-unfoldable pub textEdges : List Row
+unfoldable pub textEdges : List Example
 unfolding answerTo restOf bytes readCall
 textEdges =
     -- the limits of the header: past them TOO LARGE, within them the lines are missing
@@ -47,7 +47,7 @@ textEdges =
     ∷ answerTo "aag 2 1 0 0 1\n2\n4 4 2\n" gives (6 ∷ [])
     ∷ []
 
-unfoldable pub graphEdges : List Row
+unfoldable pub graphEdges : List Example
 unfolding e1 variables leavesOf writeCall evaluateCall pickCall tableCall applyCall
 graphEdges =
     -- a lent graph with 65 inputs or outputs is not well formed; with 64 only room lacks

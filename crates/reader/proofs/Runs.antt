@@ -15,7 +15,7 @@ use lib.Seq.{drop-drop}
 use Rattle.graph.proofs.Lists.{true-or-false, same-tests}
 use Rattle.text.specs.Number.{digit, isDigit, Front, front, digitRun, valueFrom, noLeadingZero, mostNumber, isNumber, number}
 use Rattle.reader.specs.Places.{digitAt, runValue}
-use Rattle.text.proofs.Numbers.{digit-least, digit-most}
+use Rattle.text.proofs.Number.{digit-least, digit-most}
 
 -- the digits at the front of a text, and the text that follows them
 abbrev run : List ℕ → List ℕ

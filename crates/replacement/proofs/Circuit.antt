@@ -16,11 +16,11 @@ use Rattle.graph.proofs.Lists.{equal-or-not, map-same}
 use Rattle.graph.proofs.Sweep.{values-at}
 use Rattle.graph.proofs.Values.{outputs-are-literals}
 use Rattle.graph.proofs.Stand.{plain-value, moved, Copies, Carries, literal-carries, copy-carries, all-carry}
-use Rattle.window.specs.declared.Leaves.{Leaves}
+use Rattle.window.specs.declared.leaf_set.Leaves.{Leaves}
 use Rattle.window.specs.Leaves.{leafList}
 use Rattle.window.specs.Local.{covered, localUpTo, localAt}
-use Rattle.window.proofs.Coverage.{covered-value}
-use Rattle.window.proofs.Tables.{local-stays}
+use Rattle.window.proofs.Local.{covered-value}
+use Rattle.window.proofs.Table.{local-stays}
 
 -- f computes from the values of covered variables below the root what the root computes from the leaves
 pub record Computes (net : Net) (w : Leaves) (root : ℕ) (f : List Bool → Bool) : Type 0 where

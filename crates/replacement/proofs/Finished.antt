@@ -12,15 +12,15 @@ use Rattle.graph.specs.Evaluate.{outputsUnder}
 use Rattle.graph.specs.Drop.{dropped, renumbered}
 use Rattle.graph.proofs.Drop.{AllReached, dropped-free, dropped-size, used-at-most-size, dropped-lawful, dropped-all-reached, dropped-uses}
 use Rattle.graph.proofs.DropKeeps.{dropped-keeps-outputs}
-use Rattle.window.specs.declared.Leaves.{Leaves}
+use Rattle.window.specs.declared.leaf_set.Leaves.{Leaves}
 use Rattle.window.specs.Leaves.{leafLimit}
 use Rattle.window.specs.Local.{covered}
 use Rattle.window.specs.Table.{table}
-use Rattle.replacement.specs.declared.Proposal.{Proposal}
+use Rattle.replacement.specs.declared.types.Proposal.{Proposal}
 use Rattle.replacement.specs.Proposal.{Allowed, proposedValue, proposedTable}
 use Rattle.replacement.specs.Rewire.{redirected, rewired, finished}
 use Rattle.replacement.proofs.Circuit.{replaced-keeps-outputs}
-use Rattle.replacement.proofs.Allowed.{equal-table-computes}
+use Rattle.replacement.proofs.Proposal.{equal-table-computes}
 use Rattle.replacement.proofs.Rewire.{rewired-free, wires-of, rewired-lawful}
 use Rattle.replacement.proofs.Replacement.{standFor, rewired-replaced}
 

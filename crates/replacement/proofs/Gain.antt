@@ -11,7 +11,7 @@ use lib.IntN.{ℤ, pos, negsuc, natAbs, subℕ}
 use Rattle.graph.specs.Graph.{Graph}
 use Rattle.graph.specs.Use.{usedGates}
 use Rattle.graph.proofs.Lists.{at-most-or-above}
-use Rattle.replacement.specs.declared.Proposal.{Proposal}
+use Rattle.replacement.specs.declared.types.Proposal.{Proposal}
 use Rattle.replacement.specs.Rewire.{finished, gain, atLeastOne}
 
 -- a difference of at least 1 is a falling number

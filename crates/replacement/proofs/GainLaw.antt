@@ -9,8 +9,8 @@ use lib.IntN.{pos, subℕ}
 use Rattle.graph.specs.Graph.{Graph, Lawful}
 use Rattle.graph.specs.Use.{InUse, usedGates}
 use Rattle.graph.proofs.Drop.{dropped-uses}
-use Rattle.window.specs.declared.Leaves.{Leaves}
-use Rattle.replacement.specs.declared.Proposal.{Proposal}
+use Rattle.window.specs.declared.leaf_set.Leaves.{Leaves}
+use Rattle.replacement.specs.declared.types.Proposal.{Proposal}
 use Rattle.replacement.specs.Proposal.{Allowed}
 use Rattle.replacement.specs.Rewire.{rewired, finished, gain, atLeastOne}
 use Rattle.replacement.specs.Vanish.{newGates, leaving, heldBack}

@@ -1,5 +1,5 @@
 pub mod Circuit
-pub mod Allowed
+pub mod Proposal
 pub mod Pieces
 pub mod Rewire
 pub mod Reach
@@ -10,4 +10,4 @@ pub mod Past
 pub mod Vanish
 pub mod GainLaw
 pub mod Finished
-pub mod Refusals
+pub mod Calls

@@ -7,7 +7,7 @@ use native.Mathlib.Omega.{arith}
 use lib.ListN.{length, getD}
 use Rattle.graph.specs.Lists.{gather}
 use Rattle.graph.specs.Graph.{Net, netOf, free, size, first, second, largerFirst, IsGate}
-use Rattle.graph.proofs.WellFormed.{larger-first}
+use Rattle.graph.proofs.Graph.{larger-first}
 use Rattle.graph.proofs.Gather.{length-gather, getD-gather}
 
 -- the first and the second word of a gate are the larger and the smaller of two literals

@@ -16,7 +16,7 @@ use Rattle.graph.proofs.Lists.{at-most-or-above, equal-or-not}
 use Rattle.graph.proofs.Members.{map-at}
 use Rattle.graph.proofs.Marks.{NamedBy}
 use Rattle.graph.proofs.Use.{first-lower, second-lower}
-use Rattle.replacement.specs.declared.Proposal.{Proposal}
+use Rattle.replacement.specs.declared.types.Proposal.{Proposal}
 use Rattle.replacement.specs.Rewire.{standIn, redirected, rewiredNet, rewired}
 use Rattle.replacement.specs.Vanish.{Without, by-output, by-first, by-second, literals, From}
 use Rattle.replacement.proofs.Rewire.{literal-stands, root-stands, redirected-root, redirected-other, rewired-size, rewired-free, other-gate, and-root, Wires, to-literal, to-and}

@@ -13,8 +13,8 @@ use Rattle.graph.specs.Literal.{varOf, flip}
 use Rattle.graph.specs.Graph.{Net, Graph, free, size, last, sinks, first, second, largerFirst, IsGate, Lawful}
 use Rattle.graph.proofs.Lists.{equal-or-not}
 use Rattle.graph.proofs.Members.{map-at}
-use Rattle.window.specs.declared.Leaves.{Leaves}
-use Rattle.replacement.specs.declared.Proposal.{Proposal}
+use Rattle.window.specs.declared.leaf_set.Leaves.{Leaves}
+use Rattle.replacement.specs.declared.types.Proposal.{Proposal}
 use Rattle.replacement.specs.Proposal.{Allowed, a-literal, an-and}
 use Rattle.replacement.specs.Rewire.{standIn, redirected, rootGates, rewiredGate, rewiredNet, rewired}
 use Rattle.replacement.proofs.Pieces.{Holds, pieces-length, pieces-hold}

@@ -15,7 +15,7 @@ use Rattle.graph.specs.Use.{Reached, as-output, markEach, markDown, marks, coun
 use Rattle.graph.proofs.Lists.{true-or-false, same-tests}
 use Rattle.graph.proofs.Marks.{Marked, each-length, each-keeps, each-marks, each-only}
 use Rattle.graph.proofs.Use.{down-keeps, down-closed, marked-reached, reached-marked}
-use Rattle.replacement.specs.declared.Proposal.{Proposal}
+use Rattle.replacement.specs.declared.types.Proposal.{Proposal}
 use Rattle.replacement.specs.Proposal.{literal}
 use Rattle.replacement.specs.Rewire.{rewired}
 use Rattle.replacement.specs.Vanish.{Without, by-output, by-first, by-second, literals, From, newGates, marksWithout, marksBeside, countApart, leaving, heldBack}

@@ -12,11 +12,11 @@ use Rattle.graph.specs.Lent.{Buffers, noRoomFor, NoRoomFor, storedIn, Effect, _
 use Rattle.graph.specs.Refuse.{Row, _⇒_, firstRefusal, Outcome, accepted, refused}
 use Rattle.graph.specs.Use.{usedGates}
 use Rattle.graph.specs.Graph.{Graph, size, wellFormed, WellFormed}
-use Rattle.window.specs.declared.Leaves.{Leaves}
+use Rattle.window.specs.declared.leaf_set.Leaves.{Leaves}
 use Rattle.window.specs.Table.{table, sameTable}
 use Rattle.window.specs.Calls.{windowRefusals, WindowGiven}
-use Rattle.replacement.specs.declared.Proposal.{Proposal}
-use Rattle.replacement.specs.declared.Applied.{Applied}
+use Rattle.replacement.specs.declared.types.Proposal.{Proposal}
+use Rattle.replacement.specs.declared.types.Applied.{Applied}
 use Rattle.replacement.specs.Proposal.{allowed, Allowed, proposedTable}
 use Rattle.replacement.specs.Rewire.{finished, gain, atLeastOne}
 

@@ -8,11 +8,11 @@ use lib.Dec.{leb, ltb, eqb}
 use Rattle.graph.specs.Lists.{every}
 use Rattle.graph.specs.Literal.{varOf, isOdd}
 use Rattle.graph.specs.Graph.{Net}
-use Rattle.graph.specs.Sweep.{Kind, bools, turned, litValue}
-use Rattle.window.specs.declared.Leaves.{Leaves}
+use Rattle.graph.specs.Sweep.{Algebra, bools, turned, litValue}
+use Rattle.window.specs.declared.leaf_set.Leaves.{Leaves}
 use Rattle.window.specs.Local.{covered, localUpTo}
 use Rattle.window.specs.Table.{bit, pack, patterns}
-use Rattle.replacement.specs.declared.Proposal.{Proposal}
+use Rattle.replacement.specs.declared.types.Proposal.{Proposal}
 
 abbrev pub literal : ℕ → Proposal
 literal l = record { kind = 0; first = record { 0 = l }; second = record { 0 = 0 }; turned = 0 }
@@ -63,7 +63,7 @@ pub data Allowed (net : Net) (root : ℕ) (w : Leaves) (p : Proposal) : Type 0 w
       → Allowed net root w p
 
 -- the proposal's value over any kind of value, where vs has the values of the variables below the root
-unfoldable pub proposedValue : {A : Type 0} → Kind A → List A → Proposal → A
+unfoldable pub proposedValue : {A : Type 0} → Algebra A → List A → Proposal → A
 unfolding turned litValue
 proposedValue K vs p =
     cond (eqb (p .kind) 0) (litValue K vs (p .first .0))

@@ -10,7 +10,7 @@ use Rattle.graph.specs.Literal.{varOf, flip}
 use Rattle.graph.specs.Graph.{Net, Graph, netOf, overNet, free, size, first, second, largerFirst}
 use Rattle.graph.specs.Use.{usedGates}
 use Rattle.graph.specs.Drop.{dropped}
-use Rattle.replacement.specs.declared.Proposal.{Proposal}
+use Rattle.replacement.specs.declared.types.Proposal.{Proposal}
 
 -- what a plain reference to the root becomes: in kind 0 the literal, in kind 1 the root, complemented where turned
 unfoldable pub standIn : ℕ → Proposal → ℕ

@@ -9,7 +9,7 @@ use lib.ListN.{length, getD, replicate}
 use Rattle.graph.specs.Literal.{varOf}
 use Rattle.graph.specs.Graph.{Net, Graph, free, size, last, sinks, first, second, IsGate}
 use Rattle.graph.specs.Use.{Reached, markEach, markDown, marks}
-use Rattle.replacement.specs.declared.Proposal.{Proposal}
+use Rattle.replacement.specs.declared.types.Proposal.{Proposal}
 
 -- reached through no reference to the root
 pub data Without (g : Graph) (root : ℕ) : ℕ → Type 0 where

@@ -1,17 +1,5 @@
-// Replacing a root: a proposal, and what applying it answers.
-use graph::Lit;
-use graph::Refusal;
+// Replacing a root.
+mod types;
 
-// A replacement for a root. Kind 0: the literal `first`. Kind 1: the AND of `first` and `second`, complemented where `turned` is 1.
-pub struct Proposal {
-    pub kind: u32,
-    pub first: Lit,
-    pub second: Lit,
-    pub turned: u32,
-}
-
-// What applying a proposal answers: the counts of the finished graph, or why it is refused.
-pub enum Applied {
-    Graph { gates: usize, outputs: usize },
-    Refused(Refusal),
-}
+pub use types::Applied;
+pub use types::Proposal;

@@ -2,4 +2,4 @@ pub mod Greatest
 pub mod Step
 pub mod Run
 pub mod Once
-pub mod Refusals
+pub mod Calls

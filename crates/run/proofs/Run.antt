@@ -13,7 +13,7 @@ use Rattle.graph.specs.Evaluate.{outputsUnder}
 use Rattle.graph.proofs.Drop.{AllReached, dropped-free, dropped-size, used-at-most-size, all-used, dropped-well-formed, dropped-all-reached}
 use Rattle.graph.proofs.DropKeeps.{dropped-keeps-outputs}
 use Rattle.window.specs.LeafRule.{picked}
-use Rattle.window.proofs.Coverage.{covered-iff}
+use Rattle.window.proofs.Local.{covered-iff}
 use Rattle.window.proofs.LeafRule.{picked-well-set, picked-cuts}
 use Rattle.replacement.specs.Rewire.{finished}
 use Rattle.replacement.proofs.Finished.{finished-free, finished-all-reached, finished-well-formed, Fits, finished-keeps-outputs}

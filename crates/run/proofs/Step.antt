@@ -12,7 +12,7 @@ use Rattle.window.specs.LeafRule.{picked}
 use Rattle.replacement.specs.Rewire.{finished}
 use Rattle.listing.specs.declared.Candidate.{Candidate}
 use Rattle.listing.specs.Listing.{listed, proposalOf, GoodRecord}
-use Rattle.listing.proofs.TheList.{listed-is, list-empty-iff}
+use Rattle.listing.proofs.Listing.{listed-is, list-empty-iff}
 use Rattle.run.specs.Run.{bestAt, stepFrom, step, NoneAt, Step}
 use Rattle.run.proofs.Greatest.{greatest-is, greatest-none, greatest-in}
 

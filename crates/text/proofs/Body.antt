@@ -13,13 +13,13 @@ use lib.Seq.{getD-take, getD-drop}
 use Rattle.graph.specs.Lists.{gather}
 use Rattle.graph.specs.Graph.{Net, Graph, graphOf, free, size, last, first, second, IsGate, Lawful}
 use Rattle.graph.proofs.Lists.{and-left, and-right, and-both}
-use Rattle.graph.proofs.WellFormed.{first-at, second-at}
+use Rattle.graph.proofs.Graph.{first-at, second-at}
 use Rattle.graph.proofs.Gather.{gather-same, gather-is}
 use Rattle.text.specs.declared.header.Header.{Header}
 use Rattle.text.specs.Line.{line}
 use Rattle.text.specs.States.{aag, inputLines, outputLines, gateLines, textWith}
 use Rattle.text.specs.Reading.{headerOf, Needed, inputNeeded, outputNeeded, gateNeeded, linesNeeded, gateWords, graphRead}
-use Rattle.text.proofs.Lines.{lines-decode}
+use Rattle.text.proofs.Line.{lines-decode}
 use Rattle.graph.proofs.Gathered.{singles, singles-are, flatMap-append, flatMap-singles, by-part, row, length-row, row-first, row-second, row-third}
 
 -- ---- the numbers of a text

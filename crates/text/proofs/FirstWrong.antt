@@ -16,7 +16,7 @@ use Rattle.text.specs.States.{skipped}
 use Rattle.text.specs.Reading.{Needed, Lines, wrong, right, withLine, readLines}
 use Rattle.text.specs.Refusals.{Shaped, FirstWrong, bad-rest, misshapen, breaks, later}
 use Rattle.text.proofs.Cases.{wrong-injective, wrong-not-right}
-use Rattle.text.proofs.Lines.{line-of-iff}
+use Rattle.text.proofs.Line.{line-of-iff}
 
 with-line-wrong : (ns : List ℕ) (x : Lines) (r : Refusal) → withLine ns x ≡ wrong r → x ≡ wrong r
 unfolding withLine

@@ -1,6 +1,6 @@
-pub mod Numbers
+pub mod Number
 pub mod Cases
-pub mod Lines
+pub mod Line
 pub mod Body
 pub mod States
 pub mod Fitting

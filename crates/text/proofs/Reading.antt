@@ -27,7 +27,7 @@ use Rattle.text.specs.Reading.{Stated, headerOf, headerLine, mostBytes, 
 use Rattle.text.specs.Refusals.{Headed}
 use Rattle.text.specs.Calls.{withRoom, readEffect}
 use Rattle.text.proofs.Cases.{refuses-not-yields, yields-injective}
-use Rattle.text.proofs.Lines.{header-line-iff}
+use Rattle.text.proofs.Line.{header-line-iff}
 use Rattle.graph.proofs.Gathered.{singles-are}
 use Rattle.text.proofs.Body.{counts, linesOf, text-is, lines-fit, graph-of-lines}
 use Rattle.text.proofs.Fitting.{swapsRead, lines-of-read, read-lawful, read-counts, counts-small, numbers-small}

@@ -15,8 +15,8 @@ use Rattle.graph.specs.declared.refusal.Refusal.the-variants.{NoRoom}
 use Rattle.graph.specs.Refuse.{Row, firstRefusal, numberOf, Lowest, Answers}
 use Rattle.graph.specs.Lent.{Buffers, noRoomFor, NoRoomFor}
 use Rattle.graph.specs.Graph.{Graph, mostInputs, mostOutputs, mostGates}
-use Rattle.graph.proofs.WellFormed.{well-formed-iff}
-use Rattle.graph.proofs.Settles.{numberOf-not-zero, Settles, gives, clears, settles-then, settles-answers, shown}
+use Rattle.graph.proofs.Graph.{well-formed-iff}
+use Rattle.graph.proofs.Refuse.{numberOf-not-zero, Settles, gives, clears, settles-then, settles-answers, shown}
 use Rattle.graph.proofs.Rows.{Decides, Silent, ascends, first-settles, first-none}
 use Rattle.graph.proofs.Tests.{denial-on, denial-off, test-off, short-iff, no-room-iff}
 use Rattle.text.specs.declared.header.Header.{Header}
@@ -25,7 +25,7 @@ use Rattle.text.specs.States.{States, textOf}
 use Rattle.text.specs.Reading.{headerOf, headerLine, headerRefusals, Needed, linesNeeded, Lines, wrong, right, readLines, refuses, yields, graphRead, readBody, reading}
 use Rattle.text.specs.Refusals.{Headed, FirstWrong, ReadGiven, WriteGiven}
 use Rattle.text.specs.Calls.{withRoom, readEffect, readOutcome, writeRefusals, writeEffect, writtenOutcome}
-use Rattle.text.proofs.Lines.{header-line-iff}
+use Rattle.text.proofs.Line.{header-line-iff}
 use Rattle.text.proofs.States.{states-one}
 use Rattle.text.proofs.Reading.{no-first-line, first-line-refused, first-line-passes, body-wrong, body-right, large-iff, latches-iff, count-iff, reading-iff}
 use Rattle.text.proofs.Cases.{wrong-injective, wrong-not-right, refusalOf, refusal-is, graph-is}
@@ -176,9 +176,9 @@ module _ (t : List ℕ) (b : Buffers) where
       settles-answers read-settles _ (λ q e. rw (refusal-is (withRoom (reading t) b) q e, readEffect)) (λ e. rw (graph-is (withRoom (reading t) b) e .1, readEffect))
 
   -- a refusal leaves the lent lists as they were
-  pub read-leaves : (r : Refusal) → (readOutcome ((readEffect t b) .answer)) .number ≡ numberOf r → (readEffect t b) .lent ≡ b
+  pub read-writes-nothing : (r : Refusal) → (readOutcome ((readEffect t b) .answer)) .number ≡ numberOf r → (readEffect t b) .lent ≡ b
   unfolding readEffect readOutcome
-  read-leaves r e =
+  read-writes-nothing r e =
       let s = shown (refusalOf (withRoom (reading t) b)) _ (λ n. rw (graph-is (withRoom (reading t) b) n .1, readEffect)) r e in
       rw (refusal-is (withRoom (reading t) b) (s .0) (s .1), readEffect)
 
@@ -203,6 +203,6 @@ module _ (g : Graph) (lent : List ℕ) where
   write-answers = settles-answers (first-settles write-decides) _ (λ q e. rw (e, writeEffect)) (λ e. rw (e, writeEffect))
 
   -- a refusal leaves the lent bytes as they were
-  pub write-leaves : (r : Refusal) → (writtenOutcome ((writeEffect g lent) .answer)) .number ≡ numberOf r → (writeEffect g lent) .lent ≡ lent
+  pub write-writes-nothing : (r : Refusal) → (writtenOutcome ((writeEffect g lent) .answer)) .number ≡ numberOf r → (writeEffect g lent) .lent ≡ lent
   unfolding writeEffect writtenOutcome
-  write-leaves r e = let s = shown (firstRefusal (writeRefusals g lent)) _ (λ n. rw (n, writeEffect)) r e in rw (s .1, writeEffect)
+  write-writes-nothing r e = let s = shown (firstRefusal (writeRefusals g lent)) _ (λ n. rw (n, writeEffect)) r e in rw (s .1, writeEffect)

@@ -12,7 +12,7 @@ use Rattle.text.specs.Number.{decimal}
 use Rattle.text.specs.Line.{separator, line}
 use Rattle.text.specs.States.{aag, textOf}
 use Rattle.text.specs.Reading.{headerOf, mostBytes, yields, reading}
-use Rattle.text.proofs.Numbers.{decimal-short}
+use Rattle.text.proofs.Number.{decimal-short}
 use Rattle.text.proofs.Body.{counts, linesOf, lines-count, text-is, lines-fit}
 use Rattle.text.proofs.States.{text-of-states}
 use Rattle.text.proofs.Fitting.{lines-narrow, mostStated, counts-small, numbers-small}

@@ -15,7 +15,7 @@ use Rattle.text.specs.States.{skipped}
 use Rattle.text.specs.Reading.{Needed, Lines, wrong, right, withLine, readLines}
 use Rattle.text.specs.Refusals.{Shaped}
 use Rattle.text.proofs.Cases.{right-injective, wrong-not-right}
-use Rattle.text.proofs.Lines.{line-of-iff}
+use Rattle.text.proofs.Line.{line-of-iff}
 use Rattle.text.proofs.Body.{Fits, fits-first, fits-later, fits-more}
 
 -- the text t is these lines, which fit, and a rest

@@ -8,7 +8,7 @@ use Rattle.graph.specs.Graph.{Graph, Lawful}
 use Rattle.text.specs.Line.{line}
 use Rattle.text.specs.States.{aag, skipped, States, textOf}
 use Rattle.text.specs.Reading.{headerOf, linesNeeded, graphRead}
-use Rattle.text.proofs.Lines.{lines-decode}
+use Rattle.text.proofs.Line.{lines-decode}
 use Rattle.text.proofs.Body.{counts, linesOf, text-is, Fits, fits-decode, lines-fit, graph-of-lines}
 
 -- the first line gives the counts, and these tell how the later lines are cut

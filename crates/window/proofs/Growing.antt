@@ -15,12 +15,12 @@ use Rattle.graph.specs.declared.lit.Var.{Var}
 use Rattle.graph.specs.Lists.{isIn, filled}
 use Rattle.graph.specs.Literal.{varOf}
 use Rattle.graph.specs.Graph.{Net, netOf, first, second}
-use Rattle.window.specs.declared.Leaves.{Leaves}
-use Rattle.window.specs.declared.Grown.{Grown}
+use Rattle.window.specs.declared.leaf_set.Leaves.{Leaves}
+use Rattle.window.specs.declared.leaf_set.Grown.{Grown}
 use Rattle.window.specs.Leaves.{leafLimit, numbers, variables, leafList, leavesOf}
 use Rattle.window.specs.LeafRule.{put, insert, remove, withFanins}
 use Rattle.window.specs.Growing.{grownFrom, fitting, grownOf, Tidy}
-use Rattle.window.proofs.LeafSets.{leaves-of-list}
+use Rattle.window.proofs.Leaves.{leaves-of-list}
 use Rattle.window.proofs.Sets.{Put, at-end, before, already, after, put-is, Insert, skipped, inserted, insert-is, Remove, absent, found, passed, remove-is}
 
 -- ---- places by number

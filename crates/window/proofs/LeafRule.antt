@@ -15,7 +15,7 @@ use Rattle.graph.proofs.Members.{none-in}
 use Rattle.window.specs.Leaves.{leafLimit, leafList, WellSet}
 use Rattle.window.specs.Local.{Covered}
 use Rattle.window.specs.LeafRule.{Expandable, Chosen, Follows, stops, takes, withFanins, expand, expansions, smallest, grow, ruleLeaves, picked}
-use Rattle.window.proofs.LeafSets.{leaves-of-list, leaves-of-well-set}
+use Rattle.window.proofs.Leaves.{leaves-of-list, leaves-of-well-set}
 use Rattle.window.proofs.Weight.{weight, weightless}
 use Rattle.window.proofs.Smallest.{none-smallest}
 use Rattle.window.proofs.Expansions.{CutUnder, fanins-length, start-weighs, expand-weighs, start-cuts, expand-cuts}

@@ -1,9 +1,9 @@
 pub mod Bits
-pub mod Tables
+pub mod Table
 pub mod Patterns
-pub mod Places
-pub mod Coverage
-pub mod LeafSets
+pub mod LeafPlaces
+pub mod Local
+pub mod Leaves
 pub mod Growing
 pub mod Sets
 pub mod Weight
@@ -12,4 +12,4 @@ pub mod Smallest
 pub mod Choice
 pub mod LeafRule
 pub mod Taking
-pub mod Refusals
+pub mod Calls

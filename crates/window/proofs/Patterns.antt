@@ -12,12 +12,12 @@ use lib.ListN.{length, getD, length-take}
 use Rattle.graph.specs.Graph.{Net}
 use Rattle.graph.specs.Sweep.{bools}
 use Rattle.graph.proofs.Sweep.{values-same}
-use Rattle.window.specs.declared.Leaves.{Leaves}
+use Rattle.window.specs.declared.leaf_set.Leaves.{Leaves}
 use Rattle.window.specs.Leaves.{leafLimit, numbers, leafList, placeFrom, leafPlace}
 use Rattle.window.specs.Local.{leafOwn, localUpTo, localAt}
 use Rattle.window.specs.Table.{bit, pack, table}
 use Rattle.window.proofs.Bits.{pack-lt, bit-pack}
-use Rattle.window.proofs.Tables.{tables-equal, local-stays}
+use Rattle.window.proofs.Table.{tables-equal, local-stays}
 
 module _ {A : Type 0} (a a′ : ℕ → A) where
   -- a place in a list is within it, so only the values there count

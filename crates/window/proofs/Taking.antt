@@ -13,8 +13,8 @@ use lib.ListN.{length}
 use Rattle.graph.specs.Lists.{keep}
 use Rattle.graph.specs.Graph.{Net, Graph, free, WellFormed, IsGate}
 use Rattle.graph.proofs.Lists.{at-most-or-above, keep-append}
-use Rattle.window.specs.declared.Leaves.{Leaves}
-use Rattle.window.specs.declared.Grown.{Grown}
+use Rattle.window.specs.declared.leaf_set.Leaves.{Leaves}
+use Rattle.window.specs.declared.leaf_set.Grown.{Grown}
 use Rattle.window.specs.Leaves.{leafLimit, leafList, leavesOf}
 use Rattle.window.specs.LeafRule.{withFanins, expand, expansions, smallestFrom, smallest, Chosen, Follows, stops, takes, picked}
 use Rattle.window.specs.Growing.{grownFrom, grownOf, better, tried, Tidy, LeavesWithin, Pickable}

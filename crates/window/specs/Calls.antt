@@ -6,13 +6,13 @@ use mathlib.Core.List.{List, [], _∷_, _++_}
 use mathlib.Core.Option.{none, some}
 use Rattle.graph.specs.declared.refusal.Refusal.{Refusal}
 use Rattle.graph.specs.declared.refusal.Refusal.the-variants.{BadGraph, BadRoot, BadLeaves, NotACut}
-use Rattle.graph.specs.Refuse.{Row, _⇒_, firstRefusal, Outcome, accepted, refused}
+use Rattle.graph.specs.Refuse.{Row, _⇒_, firstRefusal, Outcome, verdictOutcome}
 use Rattle.graph.specs.Graph.{Graph, wellFormed, WellFormed}
 use Rattle.graph.specs.Use.{inUse, InUse}
-use Rattle.window.specs.declared.Leaves.{Leaves}
-use Rattle.window.specs.declared.Verdict.{Verdict}
-use Rattle.window.specs.declared.Picked.{Picked}
-use Rattle.window.specs.declared.RootTable.{RootTable}
+use Rattle.window.specs.declared.leaf_set.Leaves.{Leaves}
+use Rattle.graph.specs.declared.verdict.Verdict.{Verdict}
+use Rattle.window.specs.declared.answers.Picked.{Picked}
+use Rattle.window.specs.declared.answers.RootTable.{RootTable}
 use Rattle.window.specs.Leaves.{numbers, leavesOf, wellSet, WellSet}
 use Rattle.window.specs.Local.{covered, Covered}
 use Rattle.window.specs.Table.{table}
@@ -35,17 +35,12 @@ unfolding rootRefusals firstRefusal picked leavesOf
 pickAnswer g root =
     elim (firstRefusal (rootRefusals g root)) [
       | some r ↦ record { verdict = Verdict.Refused r; leaves = leavesOf [] }
-      | none ↦ record { verdict = Verdict.Accepted; leaves = picked (g .net) root }
+      | none ↦ record { verdict = Verdict.Fine; leaves = picked (g .net) root }
     ]
 
-unfoldable pub verdictOutcome : Verdict → Leaves → Outcome
-unfolding numbers
-verdictOutcome Verdict.Accepted w = accepted (w .count ∷ numbers (w .places))
-verdictOutcome (Verdict.Refused r) w = refused r
-
 unfoldable pub pickOutcome : Picked → Outcome
-unfolding verdictOutcome
-pickOutcome p = verdictOutcome (p .verdict) (p .leaves)
+unfolding verdictOutcome numbers
+pickOutcome p = verdictOutcome (p .verdict) (p .leaves .count ∷ numbers (p .leaves .places))
 
 -- ---- the table of a root over its leaves
 
@@ -62,8 +57,12 @@ pub data WindowGiven (g : Graph) (root : ℕ) (w : Leaves) : Refusal → Type 0 
 
 unfoldable pub tableAnswer : Graph → ℕ → Leaves → RootTable
 unfolding windowRefusals firstRefusal table
-tableAnswer g root w = elim (firstRefusal (windowRefusals g root w)) [ some r ↦ RootTable.Refused r | none ↦ RootTable.Table (table (g .net) w root) ]
+tableAnswer g root w =
+    elim (firstRefusal (windowRefusals g root w)) [
+      | some r ↦ record { verdict = Verdict.Refused r; table = record { 0 = 0 } }
+      | none ↦ record { verdict = Verdict.Fine; table = record { 0 = table (g .net) w root } }
+    ]
 
 unfoldable pub tableOutcome : RootTable → Outcome
-tableOutcome (RootTable.Table t) = accepted (t ∷ [])
-tableOutcome (RootTable.Refused r) = refused r
+unfolding verdictOutcome
+tableOutcome t = verdictOutcome (t .verdict) (t .table .0 ∷ [])

@@ -10,7 +10,7 @@ use lib.ListN.{length}
 use Rattle.graph.specs.Lists.{_∈_, keep}
 use Rattle.graph.specs.Literal.{varOf}
 use Rattle.graph.specs.Graph.{Net, free, first, second}
-use Rattle.window.specs.declared.Leaves.{Leaves}
+use Rattle.window.specs.declared.leaf_set.Leaves.{Leaves}
 use Rattle.window.specs.Leaves.{leafLimit, leavesOf}
 
 -- v put in, in order and without repeats

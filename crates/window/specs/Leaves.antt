@@ -9,7 +9,7 @@ use lib.Dec.{leb, ltb, eqb}
 use lib.ListN.{length, getD, take, drop}
 use Rattle.graph.specs.Lists.{filled, every, all}
 use Rattle.graph.specs.declared.lit.Var.{Var}
-use Rattle.window.specs.declared.Leaves.{Leaves}
+use Rattle.window.specs.declared.leaf_set.Leaves.{Leaves}
 
 -- a leaf set has six places
 abbrev pub leafLimit : ℕ

@@ -8,8 +8,8 @@ use lib.Dec.{leb}
 use lib.ListN.{length, getD}
 use Rattle.graph.specs.Literal.{varOf}
 use Rattle.graph.specs.Graph.{Net, free, first, second, IsGate}
-use Rattle.graph.specs.Sweep.{Kind, bools, values, valueAt}
-use Rattle.window.specs.declared.Leaves.{Leaves}
+use Rattle.graph.specs.Sweep.{Algebra, bools, values, valueAt}
+use Rattle.window.specs.declared.leaf_set.Leaves.{Leaves}
 use Rattle.window.specs.Leaves.{leafList, leafPlace}
 
 -- covered: variable 0, each leaf, and each gate whose two fanin variables are covered
@@ -19,7 +19,7 @@ pub data Covered (net : Net) (w : Leaves) : ℕ → Type 0 where
   gate-is : {v : ℕ} → IsGate net v → Covered net w (varOf (first net v)) → Covered net w (varOf (second net v)) → Covered net w v
 
 -- a kind of value in which only coverage counts: variable 0 is covered, and a gate is if both its fanin variables are
-unfoldable pub coverage : Kind Bool
+unfoldable pub coverage : Algebra Bool
 coverage = record { no = true; conj = _&&_; neg = λ x. x }
 
 -- a leaf is covered, even one that is a gate; an input that is no leaf is not

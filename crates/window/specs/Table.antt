@@ -8,8 +8,8 @@ use lib.Dec.{eqb}
 use lib.ListN.{getD}
 use Rattle.graph.specs.Graph.{Net}
 use Rattle.graph.specs.Literal.{isOdd}
-use Rattle.graph.specs.Sweep.{Kind, values}
-use Rattle.window.specs.declared.Leaves.{Leaves}
+use Rattle.graph.specs.Sweep.{Algebra, values}
+use Rattle.window.specs.declared.leaf_set.Leaves.{Leaves}
 use Rattle.window.specs.Local.{leafOwn, localAt}
 
 -- bit i of the number x
@@ -37,7 +37,7 @@ sameTable s t = eqb s t
 -- ---- words: all patterns at once
 
 -- the AND and the complement of tables
-unfoldable pub words : Kind ℕ
+unfoldable pub words : Algebra ℕ
 words = record { no = 0; conj = bitAnd; neg = λ x. (2 ^ patterns - 1) - x }
 
 -- the table of leaf j itself

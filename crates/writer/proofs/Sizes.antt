@@ -11,7 +11,7 @@ use Rattle.graph.specs.Graph.{netOf, graphOf}
 use Rattle.text.specs.Number.{decimal, mostNumber}
 use Rattle.text.specs.Line.{space, lineFeed, line}
 use Rattle.text.specs.States.{aag, inputLines, outputLines, textOf}
-use Rattle.text.proofs.Numbers.{decimal-one, decimal-short}
+use Rattle.text.proofs.Number.{decimal-one, decimal-short}
 use Rattle.writer.proofs.Writing.{
   numbered,
   line-one,

@@ -13,7 +13,7 @@ use Rattle.graph.specs.Lists.{gather}
 use Rattle.graph.specs.Graph.{Graph, netOf, graphOf, wellFormed}
 use Rattle.graph.specs.Lent.{short, _leaving_}
 use Rattle.graph.specs.Refuse.{firstRefusal}
-use Rattle.graph.proofs.WellFormed.{first-at, second-at}
+use Rattle.graph.proofs.Graph.{first-at, second-at}
 use Rattle.graph.proofs.Gather.{gather-same}
 use Rattle.text.specs.declared.WrittenText.{WrittenText}
 use Rattle.text.specs.Number.{decimal}

@@ -3,7 +3,7 @@
 use mathlib.Core.Path.{_∙_}
 use Rattle.graph.specs.Lent.{written}
 use Rattle.text.specs.Calls.{readOutcome}
-use Rattle.exports.proofs.Answer.{answer-told}
+use Rattle.exports.proofs.Exported.{answer-told}
 use borrow.Author.Needs.{needs}
 use Rattle.exports.proofs.nenquilco_read.Statement.{statement}
 use Rattle.exports.proofs.nenquilco_read.Tie as tie

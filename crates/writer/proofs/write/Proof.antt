@@ -8,7 +8,7 @@ use borrow.Author.Needs.{needs}
 use borrow.Author.Tests.{not-true, not-false}
 use lib.ListN.{length}
 use Rattle.graph.specs.Graph.{Graph, graphOf, wellFormed}
-use Rattle.graph.proofs.WellFormed.{well-formed}
+use Rattle.graph.proofs.Graph.{well-formed}
 use Rattle.text.specs.States.{textOf}
 use Rattle.writer.proofs.Writing.{writes-bad-graph, writes-no-room, writes-text}
 use Rattle.writer.proofs.write.Statement.{statement}

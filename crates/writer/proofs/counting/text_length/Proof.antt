@@ -6,7 +6,7 @@ use native.Mathlib.Omega.{arith}
 use borrow.Author.Needs.{needs}
 use lib.ListN.{length}
 use Rattle.graph.specs.Graph.{Graph, graphOf, WellFormed}
-use Rattle.graph.proofs.WellFormed.{well-formed}
+use Rattle.graph.proofs.Graph.{well-formed}
 use Rattle.text.specs.States.{textOf}
 use Rattle.text.specs.Reading.{mostBytes}
 use Rattle.text.proofs.RoundTrip.{text-of-short}

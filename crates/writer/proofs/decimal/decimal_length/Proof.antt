@@ -3,7 +3,7 @@
 use mathlib.Core.Path.{sym, ap}
 use native.Mathlib.Omega.{arith}
 use lib.ListN.{length}
-use Rattle.text.proofs.Numbers.{decimal-one, decimal-size}
+use Rattle.text.proofs.Number.{decimal-one, decimal-size}
 use Rattle.writer.proofs.decimal.decimal_length.Statement.{statement}
 use Rattle.writer.proofs.decimal.decimal_length.Tie as tie
 

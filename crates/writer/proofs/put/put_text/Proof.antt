@@ -6,7 +6,7 @@ use native.Mathlib.Omega.{arith}
 use borrow.Author.Needs.{needs}
 use lib.ListN.{length}
 use Rattle.graph.specs.Graph.{graphOf, WellFormed}
-use Rattle.graph.proofs.WellFormed.{well-formed}
+use Rattle.graph.proofs.Graph.{well-formed}
 use Rattle.text.specs.States.{outputLines}
 use Rattle.graph.proofs.Laying.{put-then}
 use Rattle.writer.proofs.Writing.{firstLine, inputPart, gatePart, text-parts, text-size}

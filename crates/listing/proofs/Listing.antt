@@ -1,0 +1,94 @@
+-- The list that is computed is the list that document 01 asks for, and there is no other.
+-- Assumes nothing.
+use mathlib.Core.Path.{_≡_, refl, sym, ap, subst, _∙_}
+use mathlib.Core.Bool.{true, false≢true}
+use mathlib.Core.List.{List, [], _∷_}
+use mathlib.Core.Logic.{_↔_}
+use Prim.Native.Nat.{ℕ, _≤_}
+use borrow.Author.Tests.{ltb-true, lt-ltb, eqb-true, eq-eqb}
+use lib.IntN.{ℤ, pos, negsuc, natAbs}
+use Rattle.graph.specs.Lists.{_∈_, here, keep}
+use Rattle.graph.specs.Graph.{Graph}
+use Rattle.graph.proofs.Members.{none-in, in-same, in-keep, keep-from, map-from, in-map}
+use Rattle.graph.proofs.Lists.{and-left, and-right, and-both}
+use Rattle.window.specs.declared.leaf_set.Leaves.{Leaves}
+use Rattle.window.specs.Table.{sameTable}
+use Rattle.replacement.specs.declared.types.Proposal.{Proposal}
+use Rattle.replacement.specs.Proposal.{allowed}
+use Rattle.replacement.specs.Rewire.{gain, atLeastOne}
+use Rattle.replacement.specs.Calls.{equalTables}
+use Rattle.replacement.proofs.Proposal.{allowed-iff}
+use Rattle.listing.specs.declared.Candidate.{Candidate}
+use Rattle.listing.specs.Listing.{candidates, good, candidateOf, listed, proposalOf, GoodRecord, Before, IsTheList}
+use Rattle.listing.proofs.Each.{Each}
+use Rattle.listing.proofs.Sorted.{sorted-keep, sorted-map}
+use Rattle.listing.proofs.Order.{sorted-ascending, ascending-same}
+use Rattle.listing.proofs.Candidates.{allowed-in, candidates-sorted}
+
+-- ---- good replacements and their records
+
+gain-positive : (z : ℤ) → atLeastOne z ≡ true → (z ≡ pos (natAbs z)) × (1 ≤ natAbs z)
+unfolding atLeastOne
+gain-positive (pos n) e = (refl, ltb-true 0 n e)
+gain-positive (negsuc n) e = absurd (false≢true e)
+
+positive-gain : (z : ℤ) (n : ℕ) → z ≡ pos n → 1 ≤ n → atLeastOne z ≡ true
+unfolding atLeastOne
+positive-gain z n e h = ap atLeastOne e ∙ lt-ltb 0 n h
+
+module _ (g : Graph) (root : ℕ) (w : Leaves) where
+  good-record : (p : Proposal) → good g root w p ≡ true → GoodRecord g root w (candidateOf g root p)
+  unfolding good candidateOf equalTables sameTable
+  good-record p e =
+      let tests = and-right (allowed (g .net) root w p) _ e in
+      let positive = gain-positive (gain g root p) (and-right (equalTables g root w p) _ tests) in
+      record {
+        keeps-rule = allowed-iff (g .net) root w p .0 (and-left (allowed (g .net) root w p) _ e);
+        equals = eqb-true _ _ (and-left (equalTables g root w p) _ tests);
+        gain-is = positive .0;
+        at-least-one = positive .1;
+      }
+
+  record-good : (x : Candidate) → GoodRecord g root w x → good g root w (proposalOf x) ≡ true
+  unfolding good equalTables sameTable
+  record-good x r =
+      and-both _ _ (allowed-iff (g .net) root w (proposalOf x) .1 (r .keeps-rule)) (and-both _ _ (eq-eqb _ _ (r .equals)) (positive-gain _ (x .gain) (r .gain-is) (r .at-least-one)))
+
+  record-is : (x : Candidate) → GoodRecord g root w x → x ≡ candidateOf g root (proposalOf x)
+  unfolding candidateOf
+  record-is x r = ap (λ (z : ℤ). record { kind = x .kind; first = x .first; second = x .second; turned = x .turned; gain = natAbs z }) (sym (r .gain-is))
+
+  listed-good : Each (GoodRecord g root w) (listed g root w)
+  unfolding listed
+  listed-good x m =
+      let from = map-from (candidateOf g root) (keep (good g root w) (candidates root)) m in
+      subst (GoodRecord g root w) (sym (from .2)) (good-record (from .0) (keep-from (good g root w) (candidates root) (from .1) .1))
+
+  good-listed : (x : Candidate) → GoodRecord g root w x → x ∈ listed g root w
+  unfolding listed
+  good-listed x r =
+      let p = proposalOf x in
+      in-same (record-is x r)
+      (in-map (candidateOf g root) (in-keep (good g root w) (candidates root) (allowed-in (g .net) root w p (r .keeps-rule)) (record-good x r)))
+
+-- ---- the list
+
+pub listed-is : (g : Graph) (root : ℕ) (w : Leaves) → IsTheList g root w (listed g root w)
+unfolding listed
+listed-is g root w = record {
+  holds = λ x. (listed-good g root w x, good-listed g root w x);
+  ascends = sorted-ascending (sorted-map Before (candidateOf g root) (sorted-keep _ (good g root w) (candidates-sorted g root)));
+}
+
+pub the-list : (g : Graph) (root : ℕ) (w : Leaves) (xs ys : List Candidate) → IsTheList g root w xs → IsTheList g root w ys → xs ≡ ys
+the-list g root w xs ys a b =
+    ascending-same xs ys (a .ascends) (b .ascends)
+    (λ x. (λ m. (b .holds x) .1 ((a .holds x) .0 m), λ m. (a .holds x) .1 ((b .holds x) .0 m)))
+
+no-members : {A : Type 0} (xs : List A) → ((x : A) → ¬ (x ∈ xs)) → xs ≡ []
+no-members [] h = refl
+no-members (x ∷ xs) h = absurd (h x (here refl))
+
+-- the list is empty if and only if there is no good replacement
+pub list-empty-iff : (g : Graph) (root : ℕ) (w : Leaves) → (listed g root w ≡ []) ↔ ((x : Candidate) → ¬ GoodRecord g root w x)
+list-empty-iff g root w = (λ e x r. none-in (rw e at (good-listed g root w x r)), λ h. no-members (listed g root w) (λ x m. h x (listed-good g root w x m)))

@@ -1,0 +1,121 @@
+-- A proposal that keeps its kind's rule, as facts; and where its table is the root's, it computes what the root computes.
+-- Assumes nothing.
+use mathlib.Core.Path.{_≡_, refl, sym, ap, ap₂, _∙_}
+use mathlib.Core.Bool.{Bool, true, false, false≢true}
+use mathlib.Core.List.{List}
+use mathlib.Core.Logic.{⊎-elim, _↔_}
+use Prim.Native.Nat.{ℕ, _≤_, _<_}
+use borrow.Author.Tests.{leb-true, ltb-true, eqb-true, le-leb, lt-ltb, eq-eqb, ne-eqb}
+use lib.Dec.{ltb}
+use lib.ListN.{getD}
+use Rattle.graph.specs.Lists.{every}
+use Rattle.graph.specs.Literal.{varOf, isOdd}
+use Rattle.graph.specs.Graph.{Net}
+use Rattle.graph.specs.Sweep.{bools, turned, litValue}
+use Rattle.graph.proofs.Lists.{equal-or-not, and-left, and-right, and-both, every-at, every-of, done, _then_}
+use Rattle.window.specs.declared.leaf_set.Leaves.{Leaves}
+use Rattle.window.specs.Leaves.{leafLimit}
+use Rattle.window.specs.Local.{covered, localUpTo, localAt}
+use Rattle.window.specs.Table.{bit, pack, patterns, table}
+use Rattle.window.proofs.Bits.{pack-lt, pack-equal}
+use Rattle.window.proofs.Table.{table-is}
+use Rattle.window.proofs.Patterns.{locals-by-pattern, local-by-pattern}
+use Rattle.replacement.specs.declared.types.Proposal.{Proposal}
+use Rattle.replacement.specs.Proposal.{divides, Divides, literalRules, andRules, allowed, Allowed, a-literal, an-and, proposedValue, proposedTable}
+use Rattle.replacement.proofs.Circuit.{Computes}
+
+-- ---- the rules
+
+module _ (net : Net) (root : ℕ) (w : Leaves) where
+  divides-facts : (l : ℕ) → divides net root w l ≡ true → Divides net root w l
+  unfolding divides
+  divides-facts l e = record {
+    below-root = ltb-true (varOf l) root (and-left _ (covered net w (varOf l)) e);
+    is-covered = and-right (ltb (varOf l) root) _ e;
+  }
+
+  divides-test : (l : ℕ) → Divides net root w l → divides net root w l ≡ true
+  unfolding divides
+  divides-test l d = and-both _ _ (lt-ltb (varOf l) root (d .below-root)) (d .is-covered)
+
+  module _ (p : Proposal) where
+    by-literal : p .kind ≡ 0 → allowed net root w p ≡ every (literalRules net root w p)
+    unfolding allowed
+    by-literal e = rw e
+
+    by-and : p .kind ≡ 1 → allowed net root w p ≡ every (andRules net root w p)
+    unfolding allowed
+    by-and e = rw e
+
+    by-none : ¬ (p .kind ≡ 0) → ¬ (p .kind ≡ 1) → allowed net root w p ≡ false
+    unfolding allowed
+    by-none n m = rw (ne-eqb (p .kind) 0 n, ne-eqb (p .kind) 1 m)
+
+    literal-facts : p .kind ≡ 0 → every (literalRules net root w p) ≡ true → Allowed net root w p
+    unfolding literalRules
+    literal-facts k e = let at = every-at (literalRules net root w p) e in a-literal k (divides-facts (p .first .0) (at 0)) (eqb-true _ _ (at 1)) (eqb-true _ _ (at 2))
+
+    and-facts : p .kind ≡ 1 → every (andRules net root w p) ≡ true → Allowed net root w p
+    unfolding andRules
+    and-facts k e =
+        let at = every-at (andRules net root w p) e in
+        an-and k (divides-facts (p .first .0) (at 0)) (divides-facts (p .second .0) (at 1)) (ltb-true _ _ (at 2)) (ltb-true _ _ (at 3)) (leb-true _ _ (at 4))
+
+    allowed-facts : allowed net root w p ≡ true → Allowed net root w p
+    allowed-facts e = ⊎-elim
+        (λ k. literal-facts k (sym (by-literal k) ∙ e))
+        (λ n. ⊎-elim (λ k. and-facts k (sym (by-and k) ∙ e)) (λ m. absurd (false≢true (sym (by-none n m) ∙ e))) (equal-or-not (p .kind) 1))
+        (equal-or-not (p .kind) 0)
+
+    allowed-test : Allowed net root w p → allowed net root w p ≡ true
+    unfolding literalRules andRules
+    allowed-test (a-literal k d s t) = by-literal k ∙ every-of (divides-test (p .first .0) d then eq-eqb _ _ s then eq-eqb _ _ t then done)
+    allowed-test (an-and k d d′ z l t) =
+        by-and k ∙ every-of (divides-test (p .first .0) d then divides-test (p .second .0) d′ then lt-ltb _ _ z then lt-ltb _ _ l then le-leb _ _ t then done)
+
+    pub allowed-iff : (allowed net root w p ≡ true) ↔ Allowed net root w p
+    allowed-iff = (allowed-facts, allowed-test)
+
+-- ---- the value of a proposal
+
+module _ (p : Proposal) where
+  pub value-of-literal : p .kind ≡ 0 → (vs : List Bool) → proposedValue bools vs p ≡ litValue bools vs (p .first .0)
+  unfolding proposedValue
+  value-of-literal e vs = rw e
+
+  pub value-of-and : p .kind ≡ 1 → (vs : List Bool)
+      → proposedValue bools vs p ≡ turned bools (isOdd (p .turned)) (bools .conj (litValue bools vs (p .first .0)) (litValue bools vs (p .second .0)))
+  unfolding proposedValue
+  value-of-and e vs = rw e
+
+table-of-proposal : (net : Net) (root : ℕ) (w : Leaves) (p : Proposal)
+    → proposedTable net root w p ≡ pack patterns (λ i. proposedValue bools (localUpTo net w (bit i) root) p)
+unfolding proposedTable
+table-of-proposal net root w p = refl
+
+module _ (net : Net) (root : ℕ) (w : Leaves) (p : Proposal) where
+  abbrev Agree : List Bool → List Bool → Type 0
+  Agree vs vs′ = (v : ℕ) → v < root → covered net w v ≡ true → getD vs v false ≡ getD vs′ v false
+
+  literal-relies : (vs vs′ : List Bool) → Agree vs vs′ → (l : ℕ) → Divides net root w l → litValue bools vs l ≡ litValue bools vs′ l
+  unfolding litValue bools
+  literal-relies vs vs′ h l d = ap (turned bools (isOdd l)) (h (varOf l) (d .below-root) (d .is-covered))
+
+  value-relies : Allowed net root w p → (vs vs′ : List Bool) → Agree vs vs′ → proposedValue bools vs p ≡ proposedValue bools vs′ p
+  value-relies (a-literal k d s t) vs vs′ h = value-of-literal p k vs ∙ literal-relies vs vs′ h (p .first .0) d ∙ sym (value-of-literal p k vs′)
+  value-relies (an-and k d d′ z l t) vs vs′ h =
+      value-of-and p k vs
+      ∙ ap₂ (λ (x y : Bool). turned bools (isOdd (p .turned)) (bools .conj x y)) (literal-relies vs vs′ h (p .first .0) d) (literal-relies vs vs′ h (p .second .0) d′)
+      ∙ sym (value-of-and p k vs′)
+
+  -- equal tables are equal functions, under every assignment of the leaves
+  pub equal-table-computes : w .count ≤ leafLimit → Allowed net root w p → proposedTable net root w p ≡ table net w root
+      → Computes net w root (λ vs. proposedValue bools vs p)
+  equal-table-computes c ok e = record {
+    relies = value-relies ok;
+    same-function = λ a.
+        ap (λ (vs : List Bool). proposedValue bools vs p) (locals-by-pattern net w c a root)
+        ∙ pack-equal patterns (λ i. proposedValue bools (localUpTo net w (bit i) root) p) (λ i. localAt net w (bit i) root) .0
+        (sym (table-of-proposal net root w p) ∙ e ∙ table-is net w root) (pack leafLimit a) (pack-lt leafLimit a)
+        ∙ sym (local-by-pattern net w c a root);
+  }

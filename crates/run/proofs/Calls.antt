@@ -1,0 +1,45 @@
+-- The run: the refusal given is the lowest that holds.
+-- Assumes nothing.
+use mathlib.Core.Path.{_≡_, refl}
+use mathlib.Core.Bool.{true, _||_}
+use mathlib.Core.Logic.{_↔_, _⊎_, inl, inr, ⊎-elim}
+use Rattle.graph.specs.declared.refusal.Refusal.{Refusal}
+use Rattle.graph.specs.Lent.{noRoomFor, NoRoomFor}
+use Rattle.graph.specs.Refuse.{firstRefusal, numberOf, Answers}
+use Rattle.graph.specs.Graph.{Graph}
+use Rattle.graph.proofs.Graph.{well-formed-iff}
+use Rattle.graph.proofs.Refuse.{settles-answers, shown}
+use Rattle.graph.proofs.Rows.{Decides, Silent, ascends, first-settles}
+use Rattle.graph.proofs.Tests.{denial-on, denial-off, test-off, or-iff, no-room-iff}
+use Rattle.run.specs.Calls.{RunBuffers, RunGiven, bad-graph, no-room-for-result, no-room-for-work, runRefusals, runEffect, ranOutcome}
+
+module _ (g : Graph) (b : RunBuffers) where
+  -- the result's room or the work area's is too little
+  room-iff : (noRoomFor g (b .result) || noRoomFor g (b .work) ≡ true) ↔ (NoRoomFor g (b .result) ⊎ NoRoomFor g (b .work))
+  room-iff = or-iff _ _ (no-room-iff g (b .result)) (no-room-iff g (b .work))
+
+  run-complete : (q : Refusal) → RunGiven g b q → ¬ Silent (numberOf q) (runRefusals g b)
+  unfolding runRefusals
+  run-complete q (bad-graph h) s = h (denial-off _ (well-formed-iff g) (s .0 refl))
+  run-complete q (no-room-for-result h) s = test-off _ room-iff (s .1 .0 refl) (inl h)
+  run-complete q (no-room-for-work h) s = test-off _ room-iff (s .1 .0 refl) (inr h)
+
+  run-decides : Decides (RunGiven g b) (runRefusals g b)
+  unfolding runRefusals ascends
+  run-decides = record {
+    ascending = refl;
+    sound = (
+      λ e. bad-graph (denial-on _ (well-formed-iff g) e),
+      λ _. (λ e. ⊎-elim no-room-for-result no-room-for-work (room-iff .0 e), λ _. tt),
+    );
+    complete = run-complete;
+  }
+
+  pub run-answers : Answers (RunGiven g b) ((ranOutcome ((runEffect g b) .answer)) .number)
+  unfolding runEffect ranOutcome
+  run-answers = settles-answers (first-settles run-decides) _ (λ q e. rw (e, runEffect)) (λ e. rw (e, runEffect))
+
+  -- a refusal leaves all four lent lists as they were
+  pub run-writes-nothing : (r : Refusal) → (ranOutcome ((runEffect g b) .answer)) .number ≡ numberOf r → (runEffect g b) .lent ≡ b
+  unfolding runEffect ranOutcome
+  run-writes-nothing r e = let s = shown (firstRefusal (runRefusals g b)) _ (λ n. rw (n, runEffect)) r e in rw (s .1, runEffect)
