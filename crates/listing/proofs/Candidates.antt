@@ -11,7 +11,7 @@ use Rattle.graph.proofs.Members.{in-gather, in-left, in-right, in-same}
 use Rattle.window.specs.declared.leaf_set.Leaves.{Leaves}
 use Rattle.replacement.specs.declared.types.Proposal.{Proposal}
 use Rattle.replacement.specs.Proposal.{literal, andGate, Allowed, a-literal, an-and}
-use Rattle.listing.specs.Listing.{candidates, candidateOf, Before, by-kind, by-first, by-second, by-turned}
+use Rattle.listing.specs.Listing.{candidates, candidateOf, Before, differs, same-then}
 use Rattle.listing.proofs.Each.{Each, each-one, each-gather}
 use Rattle.listing.proofs.Sorted.{Sorted, sorted-one, sorted-join, sorted-gather}
 
@@ -73,27 +73,27 @@ module _ (g : Graph) (root : ℕ) where
   unfolding candidateOf
   literals-sorted =
       sorted-gather _ (λ l. literal l ∷ []) (2 * root) (λ l. sorted-one _ (literal l))
-      (λ i j h. each-one _ (literal i) (each-one _ (literal j) (by-first refl h)))
+      (λ i j h. each-one _ (literal i) (each-one _ (literal j) (same-then refl (differs h))))
 
   over-sorted : (a b : ℕ) → Sorted (Earlier g root) (andsOver a b)
   unfolding candidateOf
   over-sorted a b =
       sorted-gather _ (λ c. andGate a b c ∷ []) 2 (λ c. sorted-one _ (andGate a b c))
-      (λ i j h. each-one _ (andGate a b i) (each-one _ (andGate a b j) (by-turned refl refl refl h)))
+      (λ i j h. each-one _ (andGate a b i) (each-one _ (andGate a b j) (same-then refl (same-then refl (same-then refl (differs h))))))
 
   from-sorted : (a : ℕ) → Sorted (Earlier g root) (andsFrom root a)
   unfolding candidateOf
   from-sorted a =
-      sorted-gather _ (andsOver a) (2 * root) (over-sorted a) (λ i j h. each-over _ a i (λ c. each-over _ a j (λ d. by-second refl refl h)))
+      sorted-gather _ (andsOver a) (2 * root) (over-sorted a) (λ i j h. each-over _ a i (λ c. each-over _ a j (λ d. same-then refl (same-then refl (differs h)))))
 
   ands-sorted : Sorted (Earlier g root) (ands root)
   unfolding candidateOf
   ands-sorted =
-      sorted-gather _ (andsFrom root) (2 * root) from-sorted (λ i j h. each-from _ root i (λ b c. each-from _ root j (λ d e. by-first refl h)))
+      sorted-gather _ (andsFrom root) (2 * root) from-sorted (λ i j h. each-from _ root i (λ b c. each-from _ root j (λ d e. same-then refl (differs h))))
 
   pub candidates-sorted : Sorted (Earlier g root) (candidates root)
   unfolding candidates candidateOf
   candidates-sorted =
       sorted-join _ (ands root) literals-sorted ands-sorted
       (each-gather _ _ (2 * root) (λ l _. each-one _ (literal l)
-      (each-gather _ (andsFrom root) (2 * root) (λ a _. each-from _ root a (λ b c. by-kind (le-refl 1))))))
+      (each-gather _ (andsFrom root) (2 * root) (λ a _. each-from _ root a (λ b c. differs (le-refl 1))))))

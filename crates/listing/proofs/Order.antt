@@ -7,32 +7,17 @@ use Prim.Native.Nat.{ℕ, _<_}
 use native.Mathlib.Omega.{arith}
 use Rattle.graph.specs.Lists.{_∈_}
 use Rattle.listing.specs.declared.Candidate.{Candidate}
-use Rattle.listing.specs.Listing.{Before, by-kind, by-first, by-second, by-turned, Ascending, none-left, then-more}
+use Rattle.listing.specs.Listing.{Less, differs, same-then, Before, Ascending, none-left, then-more}
 use Rattle.listing.proofs.Sorted.{Sorted, nothing, first, sorted-once, sorted-same}
 
--- numbers compared one after another: the first that differ decide
-data Less : List ℕ → List ℕ → Type 0 where
-  here : {a b : ℕ} {ms ns : List ℕ} → a < b → Less (a ∷ ms) (b ∷ ns)
-  next : {a b : ℕ} {ms ns : List ℕ} → a ≡ b → Less ms ns → Less (a ∷ ms) (b ∷ ns)
-
 less-one-way : {ms ns : List ℕ} → Less ms ns → ¬ Less ns ms
-less-one-way (here h) (here k) = absurd (omega arith)
-less-one-way (here h) (next e k) = absurd (omega arith)
-less-one-way (next e h) (here k) = absurd (omega arith)
-less-one-way (next e h) (next e′ k) = less-one-way h k
-
-key : Candidate → List ℕ
-key x = x .kind ∷ x .first ∷ x .second ∷ x .turned ∷ []
-
-before-less : {x y : Candidate} → Before x y → Less (key x) (key y)
-unfolding key
-before-less (by-kind h) = here h
-before-less (by-first e h) = next e (here h)
-before-less (by-second e f h) = next e (next f (here h))
-before-less (by-turned e f k h) = next e (next f (next k (here h)))
+less-one-way (differs h) (differs k) = absurd (omega arith)
+less-one-way (differs h) (same-then e k) = absurd (omega arith)
+less-one-way (same-then e h) (differs k) = absurd (omega arith)
+less-one-way (same-then e h) (same-then e′ k) = less-one-way h k
 
 before-one-way : (x y : Candidate) → Before x y → ¬ Before y x
-before-one-way x y h k = less-one-way (before-less h) (before-less k)
+before-one-way x y h k = less-one-way h k
 
 -- ---- ascending is sorted by that order
 

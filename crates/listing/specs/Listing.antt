@@ -57,12 +57,18 @@ pub record GoodRecord (g : Graph) (root : ℕ) (w : Leaves) (x : Candidate) : Ty
   pub gain-is : gain g root (proposalOf x) ≡ pos (x .gain)
   pub at-least-one : 1 ≤ x .gain
 
+-- numbers compared one after another: the first that differ decide
+pub data Less : List ℕ → List ℕ → Type 0 where
+  differs : {a b : ℕ} {ms ns : List ℕ} → a < b → Less (a ∷ ms) (b ∷ ns)
+  same-then : {a b : ℕ} {ms ns : List ℕ} → a ≡ b → Less ms ns → Less (a ∷ ms) (b ∷ ns)
+
+-- what a record is ordered by
+abbrev pub key : Candidate → List ℕ
+key x = x .kind ∷ x .first ∷ x .second ∷ x .turned ∷ []
+
 -- the order: kind 0 by literal, then kind 1 by (a, b, c)
-pub data Before (x y : Candidate) : Type 0 where
-  by-kind : x .kind < y .kind → Before x y
-  by-first : x .kind ≡ y .kind → x .first < y .first → Before x y
-  by-second : x .kind ≡ y .kind → x .first ≡ y .first → x .second < y .second → Before x y
-  by-turned : x .kind ≡ y .kind → x .first ≡ y .first → x .second ≡ y .second → x .turned < y .turned → Before x y
+abbrev pub Before : Candidate → Candidate → Type 0
+Before x y = Less (key x) (key y)
 
 -- each record stands before all that follow it; so none is repeated
 pub data Ascending : List Candidate → Type 0 where
