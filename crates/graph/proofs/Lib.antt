@@ -1,5 +1,6 @@
 pub mod Lists
 pub mod Members
+pub mod Each
 pub mod Gather
 pub mod Graph
 pub mod Sweep

@@ -5,7 +5,7 @@ use mathlib.Core.Bool.{Bool, true, false, _&&_, _||_}
 use mathlib.Core.Path.{_≡_}
 use mathlib.Core.List.{List, [], _∷_, _++_}
 use lib.Dec.{eqb}
-use lib.ListN.{length, replicate}
+use lib.ListN.{length, take, drop, replicate}
 
 -- x stands in the list
 infix 50 _∈_
@@ -17,6 +17,16 @@ pub data _∈_ {A : Type 0} (x : A) : List A → Type 0 where
 unfoldable pub gather : {A : Type 0} → (ℕ → List A) → ℕ → List A
 gather f zero = []
 gather f (suc n) = gather f n ++ f n
+
+-- these lists, one after the other
+unfoldable pub joined : {A : Type 0} → List (List A) → List A
+joined [] = []
+joined (xs ∷ xss) = xs ++ joined xss
+
+-- the list cut into pieces of these lengths
+unfoldable pub cut : {A : Type 0} → List ℕ → List A → List (List A)
+cut [] xs = []
+cut (n ∷ ns) xs = take n xs ∷ cut ns (drop n xs)
 
 -- n places: these numbers, and 0 in the places beyond them
 unfoldable pub filled : ℕ → List ℕ → List ℕ

@@ -12,7 +12,7 @@ use Rattle.window.specs.declared.leaf_set.Leaves.{Leaves}
 use Rattle.replacement.specs.declared.types.Proposal.{Proposal}
 use Rattle.replacement.specs.Proposal.{literal, andGate, Allowed, a-literal, an-and}
 use Rattle.listing.specs.Listing.{candidates, candidateOf, Before, differs, same-then}
-use Rattle.listing.proofs.Each.{Each, each-one, each-gather}
+use Rattle.graph.proofs.Each.{Each, each-one, each-gather}
 use Rattle.listing.proofs.Sorted.{Sorted, sorted-one, sorted-join, sorted-gather}
 
 -- the candidates' parts: those of kind 0; those of kind 1 by both literals, by the first, and all

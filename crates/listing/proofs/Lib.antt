@@ -1,4 +1,3 @@
-pub mod Each
 pub mod Sorted
 pub mod Order
 pub mod Candidates

@@ -20,7 +20,7 @@ use Rattle.replacement.specs.Calls.{equalTables}
 use Rattle.replacement.proofs.Proposal.{allowed-iff}
 use Rattle.listing.specs.declared.Candidate.{Candidate}
 use Rattle.listing.specs.Listing.{candidates, good, candidateOf, listed, proposalOf, GoodRecord, Before, IsTheList}
-use Rattle.listing.proofs.Each.{Each}
+use Rattle.graph.proofs.Each.{Each}
 use Rattle.listing.proofs.Sorted.{sorted-keep, sorted-map}
 use Rattle.listing.proofs.Order.{sorted-ascending, ascending-same}
 use Rattle.listing.proofs.Candidates.{allowed-in, candidates-sorted}

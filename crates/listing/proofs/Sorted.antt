@@ -7,7 +7,7 @@ use mathlib.Core.Logic.{_⊎_, inl, inr, ⊎-elim}
 use Prim.Native.Nat.{ℕ, zero, suc, _<_}
 use Rattle.graph.specs.Lists.{_∈_, here, later, gather, keep}
 use Rattle.graph.proofs.Members.{none-in, in-cons, in-same, map-from}
-use Rattle.listing.proofs.Each.{Each, each-join, each-gather, each-keep}
+use Rattle.graph.proofs.Each.{Each, each-join, each-gather, each-keep}
 
 -- each member stands in the relation to all that follow it
 pub data Sorted {A : Type 0} (R : A → A → Type 0) : List A → Type 0 where

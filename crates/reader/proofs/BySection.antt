@@ -2,11 +2,11 @@
 -- Assumes nothing.
 use mathlib.Core.Path.{_≡_, refl, sym, ap, ap₂, _∙_}
 use mathlib.Core.Bool.{Bool, true, false, cond}
-use mathlib.Core.List.{List, [], _∷_, _++_, append-assoc, append-nil, map, flatMap}
+use mathlib.Core.List.{List, [], _∷_, _++_, append-nil, map, flatMap}
 use mathlib.Core.Option.{Option, none, some}
 use Prim.Native.Nat.{ℕ, suc, _+_}
-use lib.ListN.{length, getD, take, drop, length-append}
-use lib.Seq.{take-at, drop-at}
+use lib.ListN.{length, getD}
+use Rattle.graph.specs.Lists.{joined, cut}
 use Rattle.graph.specs.declared.refusal.Refusal.{Refusal}
 use Rattle.graph.specs.declared.refusal.Refusal.the-variants.{BadLine, BadLiteral}
 use Rattle.graph.specs.Graph.{graphOf}
@@ -14,9 +14,9 @@ use Rattle.text.specs.declared.header.Header.{Header}
 use Rattle.text.specs.Number.{Front}
 use Rattle.text.specs.Line.{lineOf}
 use Rattle.text.specs.States.{skipped}
-use Rattle.text.specs.Reading.{Needed, inputNeeded, outputNeeded, inputsNeeded, outputsNeeded, gatesNeeded, linesNeeded, Lines, right, withLine, readLines, gateWords, graphRead, refuses, yields, readBody}
+use Rattle.text.specs.Reading.{Needed, inputsNeeded, outputsNeeded, gatesNeeded, sections, linesNeeded, Lines, right, withLine, readLines, gateWords, graphIn, graphRead, refuses, yields, readBody}
 use Rattle.reader.specs.Places.{Words, words, withWords, readWords, noWords, outputWords}
-use Rattle.graph.proofs.Gathered.{length-singles}
+use Rattle.graph.proofs.Gathered.{cut-joined}
 use Rattle.text.proofs.Reading.{body-wrong, body-right}
 
 -- ---- one section
@@ -82,19 +82,25 @@ unfolding flatMap
 outputs-are [] = refl
 outputs-are (ns ∷ nss) = ap (λ (xs : List ℕ). getD ns 0 0 ∷ xs) (outputs-are nss)
 
-module _ (h : Header) (xs ys zs : List (List ℕ)) (i : length xs ≡ h .inputs) (o : length ys ≡ h .outputs) where
-  graph-of-sections : graphRead h (xs ++ (ys ++ zs)) ≡ graphOf (h .inputs) (flatMap gateWords zs) (flatMap outputWords ys)
-  unfolding graphRead
-  graph-of-sections = ap₂ (graphOf (h .inputs))
-      (ap (flatMap gateWords)
-      (ap (drop (h .inputs + h .outputs)) (sym (append-assoc xs ys zs))
-      ∙ drop-at (xs ++ ys) zs (h .inputs + h .outputs) (length-append xs ys ∙ ap₂ (λ (m n : ℕ). m + n) i o)))
-      (ap (map (λ ns. getD ns 0 0)) (ap (take (h .outputs)) (drop-at xs (ys ++ zs) (h .inputs) i) ∙ take-at ys zs (h .outputs) o) ∙ outputs-are ys)
+module _ (h : Header) (xs ys zs : List (List ℕ)) (i : length xs ≡ length (inputsNeeded h)) (o : length ys ≡ length (outputsNeeded h))
+    (a : length zs ≡ length (gatesNeeded h)) where
+  same-lengths : map length (sections h) ≡ map length (xs ∷ ys ∷ zs ∷ [])
+  unfolding sections
+  same-lengths =
+      ap (λ (n : ℕ). n ∷ length (outputsNeeded h) ∷ length (gatesNeeded h) ∷ []) (sym i)
+      ∙ ap₂ (λ (m n : ℕ). length xs ∷ m ∷ n ∷ []) (sym o) (sym a)
+
+  graph-of-sections : graphRead h (xs ++ (ys ++ (zs ++ []))) ≡ graphOf (h .inputs) (flatMap gateWords zs) (flatMap outputWords ys)
+  unfolding graphRead graphIn joined
+  graph-of-sections =
+      ap (λ (ns : List ℕ). graphIn h (cut ns (joined (xs ∷ ys ∷ zs ∷ [])))) same-lengths
+      ∙ ap (graphIn h) (cut-joined (xs ∷ ys ∷ zs ∷ []))
+      ∙ ap (graphOf (h .inputs) (flatMap gateWords zs)) (outputs-are ys)
 
 module _ (h : Header) (t : List ℕ) where
   lines-are : readLines (linesNeeded h) t ≡ readLines (inputsNeeded h ++ (outputsNeeded h ++ gatesNeeded h)) t
-  unfolding linesNeeded
-  lines-are = ap (λ (needs : List Needed). readLines needs t) (append-assoc (inputsNeeded h) (outputsNeeded h) (gatesNeeded h))
+  unfolding linesNeeded joined sections
+  lines-are = ap (λ (needs : List Needed). readLines (inputsNeeded h ++ (outputsNeeded h ++ needs)) t) (append-nil (gatesNeeded h))
 
   pub inputs-wrong : {r : Refusal} → readWords noWords (inputsNeeded h) t ≡ Words.wrong r → readBody h t ≡ refuses r
   unfolding Tells
@@ -149,8 +155,6 @@ module _ (h : Header) (t : List ℕ) where
         all-right e =
             body-right h t (lines-of-three true e)
             ∙ ap yields
-            (ap (λ (nss : List (List ℕ)). graphRead h (after-inputs .lines ++ (after-outputs .lines ++ nss))) (append-nil (after-gates .lines))
-            ∙ graph-of-sections h (after-inputs .lines) (after-outputs .lines) (after-gates .lines)
-            (after-inputs .count ∙ length-singles (λ k. inputNeeded (suc k)) (h .inputs))
-            (after-outputs .count ∙ length-singles (λ k. outputNeeded h) (h .outputs))
+            (graph-of-sections h (after-inputs .lines) (after-outputs .lines) (after-gates .lines)
+            (after-inputs .count) (after-outputs .count) (after-gates .count)
             ∙ ap₂ (graphOf (h .inputs)) (after-gates .words-are) (after-outputs .words-are))

@@ -1,7 +1,7 @@
 pub mod Number
 pub mod Cases
 pub mod Line
-pub mod Body
+pub mod Fits
 pub mod States
 pub mod Fitting
 pub mod Spelling

@@ -1,7 +1,7 @@
 -- The steps of reading; it yields a graph if and only if the text states it, and both are within the limits.
 -- Assumes nothing.
 use mathlib.Core.Path.{_≡_, refl, sym, ap, ap₂, _∙_, subst}
-use mathlib.Core.Bool.{true, false, _||_}
+use mathlib.Core.Bool.{Bool, true, false, _||_}
 use mathlib.Core.List.{List, [], _∷_, _++_, flatMap}
 use mathlib.Core.Logic.{_↔_, _⊎_, inl, inr}
 use mathlib.Core.Option.{Option, none, some}
@@ -15,23 +15,23 @@ use Rattle.graph.specs.declared.refusal.Refusal.the-variants.{BadHeader, BadCou
 use Rattle.graph.specs.Lists.{gather}
 use Rattle.graph.specs.Refuse.{firstRefusal, numberOf}
 use Rattle.graph.specs.Lent.{Buffers, noRoomFor, storedIn, _leaving_}
-use Rattle.graph.specs.Graph.{Graph, size, mostInputs, mostOutputs, mostGates}
+use Rattle.graph.specs.Graph.{Graph, Lawful, size, mostInputs, mostOutputs, mostGates}
 use Rattle.graph.proofs.Rows.{none-silent}
 use Rattle.graph.proofs.Tests.{test-off, denial-off, or-iff, ltb-iff, eqb-iff}
 use Rattle.text.specs.declared.header.Header.{Header}
 use Rattle.text.specs.declared.ReadText.{ReadText}
 use Rattle.text.specs.Number.{Front, front}
-use Rattle.text.specs.Line.{line}
-use Rattle.text.specs.States.{aag, textWith}
-use Rattle.text.specs.Reading.{Stated, headerOf, headerLine, mostBytes, headerRefusals, linesNeeded, Lines, wrong, right, readLines, graphRead, Reading, refuses, yields, readBody, reading}
+use Rattle.text.specs.Line.{line, lines}
+use Rattle.text.specs.States.{aag, counts, numbersOf, spelling}
+use Rattle.text.specs.Reading.{Stated, headerOf, freeOf, headerLine, mostBytes, headerRefusals, linesNeeded, Lines, wrong, right, readLines, graphRead, Reading, refuses, yields, readBody, reading}
 use Rattle.text.specs.Refusals.{Headed}
 use Rattle.text.specs.Calls.{withRoom, readEffect}
 use Rattle.text.proofs.Cases.{refuses-not-yields, yields-injective}
 use Rattle.text.proofs.Line.{header-line-iff}
 use Rattle.graph.proofs.Gathered.{singles-are}
-use Rattle.text.proofs.Body.{counts, linesOf, text-is, lines-fit, graph-of-lines}
+use Rattle.text.proofs.States.{linesOf, text-is, lines-fit, graph-of-lines, swapsOf, bodyOf, stated-is}
 use Rattle.text.proofs.Fitting.{swapsRead, lines-of-read, read-lawful, read-counts, counts-small, numbers-small}
-use Rattle.text.proofs.Spelling.{Spelled, read-lines-iff}
+use Rattle.text.proofs.Spelling.{LinesAre, read-lines-iff}
 
 -- ---- the steps of reading
 
@@ -67,7 +67,7 @@ pub record WithinLimits (t : List ℕ) (h : Header) : Type 0 where
   pub gates-few : h .gates ≤ mostGates
   pub few-bytes : length t ≤ mostBytes
   pub no-latches : h .latches ≡ 0
-  pub adds-up : h .highest ≡ h .inputs + h .gates
+  pub adds-up : h .highest ≡ freeOf h + h .gates
 
 module _ (t : List ℕ) (h : Header) where
   -- the tests of the three rows
@@ -78,8 +78,8 @@ module _ (t : List ℕ) (h : Header) where
   pub latches-iff : (eqb (h .latches) 0 ≡ true) ↔ (h .latches ≡ 0)
   latches-iff = eqb-iff (h .latches) 0
 
-  pub count-iff : (eqb (h .highest) (h .inputs + h .gates) ≡ true) ↔ (h .highest ≡ h .inputs + h .gates)
-  count-iff = eqb-iff (h .highest) (h .inputs + h .gates)
+  pub count-iff : (eqb (h .highest) (freeOf h + h .gates) ≡ true) ↔ (h .highest ≡ freeOf h + h .gates)
+  count-iff = eqb-iff (h .highest) (freeOf h + h .gates)
 
   not-over : (m n : ℕ) → ¬ (m < n) → n ≤ m
   not-over m n f = omega arith
@@ -107,7 +107,7 @@ module _ (t : List ℕ) (h : Header) where
         le-ltb mostGates (h .gates) (a .gates-few),
         le-ltb mostBytes (length t) (a .few-bytes),
         eq-eqb (h .latches) 0 (a .no-latches),
-        eq-eqb (h .highest) (h .inputs + h .gates) (a .adds-up),
+        eq-eqb (h .highest) (freeOf h + h .gates) (a .adds-up),
       )
 
   pub header-within-iff : (firstRefusal (headerRefusals t h) ≡ none) ↔ WithinLimits t h
@@ -130,7 +130,7 @@ module _ {P : Type 0} (g : Graph) where
   lines-yield (wrong r) f e k = absurd (refuses-not-yields e)
   lines-yield (right nss) f e k = k nss refl (yields-injective e)
 
-module _ (t ns rest : List ℕ) (nss : List (List ℕ)) (d : Headed t ns rest) (a : WithinLimits t (headerOf ns)) (p : Spelled (linesNeeded (headerOf ns)) rest nss) where
+module _ (t ns rest : List ℕ) (nss : List (List ℕ)) (d : Headed t ns rest) (a : WithinLimits t (headerOf ns)) (p : LinesAre (linesNeeded (headerOf ns)) rest nss) where
   abbrev graph : Graph
   graph = graphRead (headerOf ns) nss
 
@@ -141,20 +141,24 @@ module _ (t ns rest : List ℕ) (nss : List (List ℕ)) (d : Headed t ns rest) (
   counts-are : counts graph ≡ ns
   counts-are = read-counts (headerOf ns) nss (p .fits) (a .adds-up) (a .no-latches) ∙ sym five-numbers
 
-  text-read : t ≡ textWith graph (swapsRead (headerOf ns) nss (p .fits)) (p .rest)
+  abbrev swaps : ℕ → Bool
+  swaps = swapsRead (headerOf ns) nss (p .fits)
+
+  text-read : t ≡ spelling (numbersOf graph swaps) (p .rest)
   text-read =
       d .is
-      ∙ ap (λ (u : List ℕ). aag ++ u) (d .shaped .is ∙ ap₂ (λ (ms u : List ℕ). line ms ++ u) (sym counts-are) (p .is ∙ ap (λ (mss : List (List ℕ)). flatMap line mss ++ p .rest) (lines-of-read (headerOf ns) nss (p .fits))))
-      ∙ sym (text-is graph (swapsRead (headerOf ns) nss (p .fits)) (p .rest))
+      ∙ ap (λ (u : List ℕ). aag ++ u)
+      (d .shaped .is
+      ∙ ap₂ (λ (ms u : List ℕ). line ms ++ u) (sym counts-are)
+      (p .is ∙ ap (λ (mss : List (List ℕ)). lines mss ++ p .rest) (lines-of-read (headerOf ns) nss (p .fits))))
+      ∙ sym (text-is graph swaps (p .rest))
 
   graph-stated : Stated t graph
   graph-stated = record {
     states = record {
-      lawful = read-lawful (headerOf ns) nss (p .fits) (a .adds-up);
-      swaps = swapsRead (headerOf ns) nss (p .fits);
-      rest = p .rest;
-      is = text-read;
-      rest-skipped = p .rest-skipped;
+      numbers = numbersOf graph swaps;
+      spelled = record { rest = p .rest; is = text-read; rest-skipped = p .rest-skipped };
+      describes = record { lawful = read-lawful (headerOf ns) nss (p .fits) (a .adds-up); swaps = swaps; are = refl };
     };
     well-formed = record {
       lawful = read-lawful (headerOf ns) nss (p .fits) (a .adds-up);
@@ -179,12 +183,18 @@ reading-stated t g e =
 
 module _ (t : List ℕ) (g : Graph) (s : Stated t g) where
   abbrev body : List ℕ
-  body = flatMap line (linesOf g (s .states .swaps)) ++ s .states .rest
+  body = bodyOf (s .states)
+
+  abbrev stated : List (List ℕ)
+  stated = linesOf g (swapsOf (s .states))
+
+  abbrev lawful : Lawful g
+  lawful = s .states .describes .lawful
 
   stated-headed : Headed t (counts g) body
   stated-headed = record {
     after-aag = line (counts g) ++ body;
-    is = s .states .is ∙ text-is g (s .states .swaps) (s .states .rest);
+    is = stated-is (s .states);
     shaped = record { count = refl; small = λ j l. omega (arith, counts-small g (s .well-formed) j); is = refl };
   }
 
@@ -198,20 +208,21 @@ module _ (t : List ℕ) (g : Graph) (s : Stated t g) where
     adds-up = refl;
   }
 
-  stated-spelled : Spelled (linesNeeded (headerOf (counts g))) body (linesOf g (s .states .swaps))
+  stated-spelled : LinesAre (linesNeeded (headerOf (counts g))) body stated
   stated-spelled = record {
-    fits = lines-fit g (s .states .swaps) (s .states .lawful);
-    small = λ j l i m. omega (arith, numbers-small g (s .well-formed) (s .states .swaps) j l i);
-    rest = s .states .rest;
+    fits = lines-fit g (swapsOf (s .states)) lawful;
+    small = λ j l i m. omega (arith, numbers-small g (s .well-formed) (swapsOf (s .states)) j l i);
+    rest = s .states .spelled .rest;
     is = refl;
-    rest-skipped = s .states .rest-skipped;
+    rest-skipped = s .states .spelled .rest-skipped;
   }
 
   stated-reading : reading t ≡ yields g
   stated-reading =
-      first-line-passes t (header-line-iff t (counts g) body .1 stated-headed) (header-within-iff t (headerOf (counts g)) .1 stated-within)
-      ∙ body-right (headerOf (counts g)) body (read-lines-iff (linesNeeded (headerOf (counts g))) body (linesOf g (s .states .swaps)) .1 stated-spelled)
-      ∙ ap yields (graph-of-lines g (s .states .swaps) (s .states .lawful))
+      let h = headerOf (counts g) in
+      first-line-passes t (header-line-iff t (counts g) body .1 stated-headed) (header-within-iff t h .1 stated-within)
+      ∙ body-right h body (read-lines-iff (linesNeeded h) body stated .1 stated-spelled)
+      ∙ ap yields (graph-of-lines g (swapsOf (s .states)) lawful)
 
 pub reading-iff : (t : List ℕ) (g : Graph) → (reading t ≡ yields g) ↔ Stated t g
 reading-iff t g = (reading-stated t g, stated-reading t g)

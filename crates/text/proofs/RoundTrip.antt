@@ -9,12 +9,11 @@ use native.Mathlib.Omega.{arith}
 use lib.ListN.{length, getD, length-append}
 use Rattle.graph.specs.Graph.{Graph, WellFormed}
 use Rattle.text.specs.Number.{decimal}
-use Rattle.text.specs.Line.{separator, line}
-use Rattle.text.specs.States.{aag, textOf}
+use Rattle.text.specs.Line.{separator, line, lines}
+use Rattle.text.specs.States.{aag, counts, textOf}
 use Rattle.text.specs.Reading.{headerOf, mostBytes, yields, reading}
 use Rattle.text.proofs.Number.{decimal-short}
-use Rattle.text.proofs.Body.{counts, linesOf, lines-count, text-is, lines-fit}
-use Rattle.text.proofs.States.{text-of-states}
+use Rattle.text.proofs.States.{linesOf, lines-count, unswapped, text-of-is, lines-fit, text-of-states}
 use Rattle.text.proofs.Fitting.{lines-narrow, mostStated, counts-small, numbers-small}
 use Rattle.text.proofs.Reading.{reading-iff}
 
@@ -27,23 +26,16 @@ line-short (x ∷ ns) h =
     (omega (arith, decimal-short 3 x (omega (arith, h 0)), line-short ns (λ i. h (suc i))))
 
 lines-short : (c : ℕ) (nss : List (List ℕ)) → ((j : ℕ) → j < length nss → length (line (getD nss j [])) ≤ c)
-    → length (flatMap line nss) ≤ c * length nss
+    → length (lines nss) ≤ c * length nss
 unfolding flatMap
 lines-short c [] h = zero-le
 lines-short c (ns ∷ nss) h =
-    rw (length-append (line ns) (flatMap line nss))
+    rw (length-append (line ns) (lines nss))
     (omega (arith, h 0 (zero-lt-suc (length nss)), lines-short c nss (λ j l. h (suc j) (suc-le-suc l))))
-
-abbrev unswapped : ℕ → Bool
-unswapped k = false
-
-text-of-is : (g : Graph) → textOf g ≡ aag ++ (line (counts g) ++ (flatMap line (linesOf g unswapped) ++ []))
-unfolding textOf
-text-of-is g = text-is g unswapped []
 
 pub text-of-short : (g : Graph) → WellFormed g → length (textOf g) ≤ mostBytes
 text-of-short g w =
-    rw (text-of-is g, length-append (line (counts g)) (flatMap line (linesOf g unswapped) ++ []), length-append (flatMap line (linesOf g unswapped)) [])
+    rw (text-of-is g, length-append (line (counts g)) (lines (linesOf g unswapped) ++ []), length-append (lines (linesOf g unswapped)) [])
     (omega (
       arith,
       w,

@@ -2,7 +2,7 @@
 -- Assumes nothing.
 use Prim.Native.Nat.{ℕ, zero, suc}
 use mathlib.Core.Bool.{cond}
-use mathlib.Core.List.{List, [], _∷_, _++_}
+use mathlib.Core.List.{List, [], _∷_, _++_, flatMap}
 use mathlib.Core.Option.{Option, none, some}
 use lib.Dec.{eqb}
 use lib.ListN.{length}
@@ -24,6 +24,10 @@ unfoldable pub line : List ℕ → List ℕ
 unfolding decimal separator
 line [] = []
 line (x ∷ xs) = decimal x ++ (separator (length xs) ∷ line xs)
+
+-- the lines of these numbers
+abbrev pub lines : List (List ℕ) → List ℕ
+lines nss = flatMap line nss
 
 -- ---- reading a line
 

@@ -5,10 +5,10 @@ use mathlib.Core.Bool.{Bool, true, false, cond, not, _&&_, _||_}
 use mathlib.Core.List.{List, [], _∷_, _++_, map, flatMap}
 use mathlib.Core.Option.{Option, none, some}
 use lib.Dec.{leb, ltb, eqb}
-use lib.ListN.{length, getD, take, drop}
+use lib.ListN.{length, getD}
 use Rattle.graph.specs.declared.refusal.Refusal.{Refusal}
 use Rattle.graph.specs.declared.refusal.Refusal.the-variants.{BadHeader, TooLarge, Latches, BadCount, BadLine, BadLiteral}
-use Rattle.graph.specs.Lists.{gather}
+use Rattle.graph.specs.Lists.{gather, joined, cut}
 use Rattle.graph.specs.Refuse.{Row, _⇒_, firstRefusal}
 use Rattle.graph.specs.Graph.{Graph, graphOf, WellFormed, largerFirst, mostInputs, mostOutputs, mostGates}
 use Rattle.text.specs.declared.header.Header.{Header}
@@ -64,7 +64,7 @@ outputNeeded h = record { numbers = 1; rule = λ ns. leb (getD ns 0 0) (2 * (h .
 unfoldable pub gateNeeded : ℕ → Needed
 gateNeeded v = record { numbers = 3; rule = λ ns. eqb (getD ns 0 0) (2 * v) && (ltb (getD ns 1 0) (2 * v) && ltb (getD ns 2 0) (2 * v)) }
 
--- the lines after the first, in order
+-- the lines of each section
 abbrev pub inputsNeeded : Header → List Needed
 inputsNeeded h = gather (λ k. inputNeeded (suc k) ∷ []) (h .inputs)
 
@@ -74,9 +74,14 @@ outputsNeeded h = gather (λ k. outputNeeded h ∷ []) (h .outputs)
 abbrev pub gatesNeeded : Header → List Needed
 gatesNeeded h = gather (λ k. gateNeeded (suc (freeOf h + k)) ∷ []) (h .gates)
 
-unfoldable pub linesNeeded : Header → List Needed
+-- the sections after the first line, in order
+unfoldable pub sections : Header → List (List Needed)
 unfolding gather inputNeeded outputNeeded gateNeeded
-linesNeeded h = inputsNeeded h ++ outputsNeeded h ++ gatesNeeded h
+sections h = inputsNeeded h ∷ outputsNeeded h ∷ gatesNeeded h ∷ []
+
+unfoldable pub linesNeeded : Header → List Needed
+unfolding joined sections
+linesNeeded h = joined (sections h)
 
 -- the numbers of all the lines, or the refusal of the first that is not right
 pub data Lines : Type 0 where
@@ -105,11 +110,15 @@ unfoldable pub gateWords : List ℕ → List ℕ
 unfolding largerFirst
 gateWords ns = largerFirst (getD ns 1 0) (getD ns 2 0)
 
+-- the graph of the sections' numbers
+unfoldable pub graphIn : Header → List (List (List ℕ)) → Graph
+unfolding gateWords flatMap
+graphIn h parts = graphOf (h .inputs) (flatMap gateWords (getD parts 2 [])) (map (λ ns. getD ns 0 0) (getD parts 1 []))
+
 -- the graph of the lines' numbers
 unfoldable pub graphRead : Header → List (List ℕ) → Graph
-unfolding gateWords flatMap
-graphRead h nss =
-    graphOf (h .inputs) (flatMap gateWords (drop (h .inputs + h .outputs) nss)) (map (λ ns. getD ns 0 0) (take (h .outputs) (drop (h .inputs) nss)))
+unfolding graphIn cut sections
+graphRead h nss = graphIn h (cut (map length (sections h)) nss)
 
 -- what a text is read as
 pub data Reading : Type 0 where

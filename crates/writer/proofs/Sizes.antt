@@ -9,8 +9,8 @@ use lib.ListN.{length, getD, length-append}
 use Rattle.graph.specs.Lists.{gather}
 use Rattle.graph.specs.Graph.{netOf, graphOf}
 use Rattle.text.specs.Number.{decimal, mostNumber}
-use Rattle.text.specs.Line.{space, lineFeed, line}
-use Rattle.text.specs.States.{aag, inputLines, outputLines, textOf}
+use Rattle.text.specs.Line.{space, lineFeed, line, lines}
+use Rattle.text.specs.States.{aag, inputNumbers, outputNumbers, textOf}
 use Rattle.text.proofs.Number.{decimal-one, decimal-short}
 use Rattle.writer.proofs.Writing.{
   numbered,
@@ -113,9 +113,9 @@ module _ (i : ℕ) (gs : List ℕ) where
 abbrev pub bytesOf : ℕ → List ℕ → List ℕ → ℕ
 bytesOf i gs os =
     4 + length (decimal (i + length gs / 2)) + length (decimal i) + 1 + length (decimal (length os)) + length (decimal (length gs / 2)) + 5
-    + length (inputLines (netOf (i + length gs / 2) []))
-    + length (outputLines os)
-    + length (outputLines gs)
+    + length (lines (inputNumbers (netOf (i + length gs / 2) [])))
+    + length (lines (outputNumbers os))
+    + length (lines (outputNumbers gs))
 
 pub text-count : (i : ℕ) (gs os : List ℕ) → length gs % 2 ≡ 0 → length (textOf (graphOf i gs os)) ≡ bytesOf i gs os
 text-count i gs os even =

@@ -9,18 +9,20 @@ use native.Mathlib.Omega.{arith}
 use borrow.Author.Tests.{lt-ltb, le-ltb}
 use lib.ListN.{length, getD, length-append}
 use Rattle.graph.specs.declared.refusal.Refusal.the-variants.{BadGraph, NoRoom}
-use Rattle.graph.specs.Lists.{gather}
+use Rattle.graph.specs.Lists.{gather, joined}
 use Rattle.graph.specs.Graph.{Graph, netOf, graphOf, wellFormed}
 use Rattle.graph.specs.Lent.{short, _leaving_}
 use Rattle.graph.specs.Refuse.{firstRefusal}
 use Rattle.graph.proofs.Graph.{first-at, second-at}
 use Rattle.graph.proofs.Gather.{gather-same}
+use Rattle.graph.proofs.Gathered.{flatMap-joined, flatMap-singles}
 use Rattle.text.specs.declared.WrittenText.{WrittenText}
 use Rattle.text.specs.Number.{decimal}
-use Rattle.text.specs.Line.{space, lineFeed, separator, line}
+use Rattle.text.specs.Line.{space, lineFeed, separator, line, lines}
 use Rattle.graph.specs.Lent.{laid}
 use Rattle.text.specs.Calls.{writeRefusals, writeEffect}
-use Rattle.text.specs.States.{aag, inputLines, outputLines, gateLine, gateLines, header, textWith, textOf}
+use Rattle.text.specs.States.{aag, inputNumbers, outputNumbers, gateLine, gateNumbers, counts, sectionsOf, textOf}
+use Rattle.text.proofs.States.{text-of-is}
 use Rattle.graph.proofs.Laying.{laid-front}
 
 -- a number and the byte after it
@@ -54,23 +56,25 @@ first-line-length m i l o a = ap length (first-line m i l o a) ∙ simp length-a
 abbrev pub inputLine : ℕ → List ℕ
 inputLine k = line (2 * suc k ∷ [])
 
-pub input-lines : (i : ℕ) (gs : List ℕ) → inputLines (netOf i gs) ≡ gather inputLine i
-unfolding inputLines
-input-lines i gs = refl
+pub input-lines : (i : ℕ) (gs : List ℕ) → lines (inputNumbers (netOf i gs)) ≡ gather inputLine i
+unfolding inputNumbers
+input-lines i gs = flatMap-singles line (λ k. 2 * suc k ∷ []) i
 
 abbrev pub outputLine : List ℕ → ℕ → List ℕ
 outputLine os j = line (getD os j 0 ∷ [])
 
-pub output-lines : (os : List ℕ) → outputLines os ≡ gather (outputLine os) (length os)
-unfolding outputLines
-output-lines os = refl
+pub output-lines : (os : List ℕ) → lines (outputNumbers os) ≡ gather (outputLine os) (length os)
+unfolding outputNumbers
+output-lines os = flatMap-singles line (λ j. getD os j 0 ∷ []) (length os)
 
 abbrev pub gateLineOf : ℕ → List ℕ → ℕ → List ℕ
 gateLineOf i gs k = line (2 * suc (i + k) ∷ getD gs (2 * k) 0 ∷ getD gs (2 * k + 1) 0 ∷ [])
 
-pub gate-lines : (i : ℕ) (gs : List ℕ) → gateLines (netOf i gs) (λ k. false) ≡ gather (gateLineOf i gs) (length gs / 2)
-unfolding gateLines gateLine
-gate-lines i gs = gather-same _ _ (length gs / 2) (λ k h. rw (first-at (netOf i gs) k, second-at (netOf i gs) k))
+pub gate-lines : (i : ℕ) (gs : List ℕ) → lines (gateNumbers (netOf i gs) (λ k. false)) ≡ gather (gateLineOf i gs) (length gs / 2)
+unfolding gateNumbers
+gate-lines i gs =
+    flatMap-singles line (λ k. gateLine (netOf i gs) (suc (i + k)) false) (length gs / 2)
+    ∙ gather-same _ _ (length gs / 2) (λ k h. rw (first-at (netOf i gs) k, second-at (netOf i gs) k))
 
 -- ---- the whole text
 
@@ -78,22 +82,31 @@ abbrev pub firstLine : ℕ → List ℕ → List ℕ → List ℕ
 firstLine i gs os = aag ++ line ((i + length gs / 2) ∷ i ∷ 0 ∷ length os ∷ length gs / 2 ∷ [])
 
 abbrev pub inputPart : ℕ → List ℕ
-inputPart i = inputLines (netOf i [])
+inputPart i = lines (inputNumbers (netOf i []))
+
+abbrev pub outputPart : List ℕ → List ℕ
+outputPart os = lines (outputNumbers os)
 
 abbrev pub gatePart : ℕ → List ℕ → List ℕ
-gatePart i gs = gateLines (netOf i gs) (λ k. false)
+gatePart i gs = lines (gateNumbers (netOf i gs) (λ k. false))
 
 module _ (i : ℕ) (gs os : List ℕ) where
-  pub text-parts : textOf (graphOf i gs os) ≡ firstLine i gs os ++ inputPart i ++ outputLines os ++ gatePart i gs
-  unfolding textOf textWith header inputLines
-  text-parts = append-nil _
+  pub text-parts : textOf (graphOf i gs os) ≡ firstLine i gs os ++ inputPart i ++ outputPart os ++ gatePart i gs
+  unfolding sectionsOf joined inputNumbers
+  text-parts =
+      text-of-is (graphOf i gs os)
+      ∙ ap (λ (t : List ℕ). aag ++ (line (counts (graphOf i gs os)) ++ (t ++ []))) (flatMap-joined line (sectionsOf (graphOf i gs os) (λ k. false)))
+      ∙ regroup aag (line (counts (graphOf i gs os))) (inputPart i) (outputPart os) (gatePart i gs)
+    where
+      regroup : (a b c d e : List ℕ) → a ++ (b ++ ((c ++ (d ++ (e ++ []))) ++ [])) ≡ a ++ b ++ c ++ d ++ e
+      regroup a b c d e = simp (append-assoc, append-nil)
 
-  pub text-size : length (textOf (graphOf i gs os)) ≡ length (firstLine i gs os) + length (inputPart i) + length (outputLines os) + length (gatePart i gs)
+  pub text-size : length (textOf (graphOf i gs os)) ≡ length (firstLine i gs os) + length (inputPart i) + length (outputPart os) + length (gatePart i gs)
   text-size = omega (
     arith,
     ap length text-parts,
-    length-append (firstLine i gs os ++ inputPart i ++ outputLines os) (gatePart i gs),
-    length-append (firstLine i gs os ++ inputPart i) (outputLines os),
+    length-append (firstLine i gs os ++ inputPart i ++ outputPart os) (gatePart i gs),
+    length-append (firstLine i gs os ++ inputPart i) (outputPart os),
     length-append (firstLine i gs os) (inputPart i),
   )
 

@@ -5,14 +5,15 @@ ghost use mathlib.Core.Bool.{true};
 ghost use Prim.Native.Nat.{_+_, _*_, _≤_};
 ghost use lib.ListN.{length};
 ghost use Rattle.graph.specs.Graph.{netOf, graphOf, mostInputs, mostGates, wellFormed};
-ghost use Rattle.text.specs.States.{inputLines, outputLines, textOf};
+ghost use Rattle.text.specs.Line.{lines};
+ghost use Rattle.text.specs.States.{inputNumbers, outputNumbers, textOf};
 use crate::decimal::decimal_length;
 use graph::Var;
 
 // The bytes of these literals and of one after each.
 fn literals_length(literals: &[u32]) -> usize
     requires { ⌜ length (now literals) ≤ 2 * mostGates ⌝ }
-    ensures { λ r. ⌜ r ≡ length (outputLines (now (literals .entry))) ⌝ }
+    ensures { λ r. ⌜ r ≡ length (lines (outputNumbers (now (literals .entry)))) ⌝ }
 {
     let mut total: usize = 0;
     let mut k: usize = 0;
@@ -26,7 +27,7 @@ fn literals_length(literals: &[u32]) -> usize
 // The same of the plain literals of variables 1 to `highest`: the input lines' and the gates' left sides.
 fn variables_length(highest: u32) -> usize
     requires { ⌜ highest ≤ mostInputs + mostGates ⌝ }
-    ensures { λ r. ⌜ r ≡ length (inputLines (netOf highest [])) ⌝ }
+    ensures { λ r. ⌜ r ≡ length (lines (inputNumbers (netOf highest []))) ⌝ }
 {
     let mut total: usize = 0;
     let mut k: u32 = 0;

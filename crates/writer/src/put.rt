@@ -7,8 +7,8 @@ ghost use lib.ListN.{length};
 ghost use Rattle.graph.specs.Graph.{netOf, graphOf, mostInputs, mostGates, wellFormed};
 ghost use Rattle.graph.specs.Lent.{laid};
 ghost use Rattle.text.specs.Number.{decimal};
-ghost use Rattle.text.specs.Line.{line};
-ghost use Rattle.text.specs.States.{aag, inputLines, outputLines, gateLines, textOf};
+ghost use Rattle.text.specs.Line.{line, lines};
+ghost use Rattle.text.specs.States.{aag, inputNumbers, outputNumbers, gateNumbers, textOf};
 use crate::decimal::put_decimal;
 use graph::Lit;
 use graph::Var;
@@ -64,9 +64,9 @@ fn put_header(bytes: &mut [u8], inputs: u32, outputs: u32, gates: u32) -> usize
 
 fn put_inputs(bytes: &mut [u8], at: usize, inputs: u32) -> usize
     requires { ⌜ inputs ≤ mostInputs ⌝ }
-    requires { ⌜ at + length (inputLines (netOf inputs [])) ≤ length (now bytes) ⌝ }
-    ensures { λ r. ⌜ r ≡ at + length (inputLines (netOf inputs [])) ⌝ }
-    ensures { λ _. ⌜ now (bytes .exit) ≡ laid at (inputLines (netOf inputs [])) (now (bytes .entry)) ⌝ }
+    requires { ⌜ at + length (lines (inputNumbers (netOf inputs []))) ≤ length (now bytes) ⌝ }
+    ensures { λ r. ⌜ r ≡ at + length (lines (inputNumbers (netOf inputs []))) ⌝ }
+    ensures { λ _. ⌜ now (bytes .exit) ≡ laid at (lines (inputNumbers (netOf inputs []))) (now (bytes .entry)) ⌝ }
 {
     let mut next = at;
     let mut k: u32 = 0;
@@ -78,9 +78,9 @@ fn put_inputs(bytes: &mut [u8], at: usize, inputs: u32) -> usize
 }
 
 fn put_outputs(bytes: &mut [u8], at: usize, outputs: &[u32]) -> usize
-    requires { ⌜ at + length (outputLines (now outputs)) ≤ length (now bytes) ⌝ }
-    ensures { λ r. ⌜ r ≡ at + length (outputLines (now (outputs .entry))) ⌝ }
-    ensures { λ _. ⌜ now (bytes .exit) ≡ laid at (outputLines (now (outputs .entry))) (now (bytes .entry)) ⌝ }
+    requires { ⌜ at + length (lines (outputNumbers (now outputs))) ≤ length (now bytes) ⌝ }
+    ensures { λ r. ⌜ r ≡ at + length (lines (outputNumbers (now (outputs .entry)))) ⌝ }
+    ensures { λ _. ⌜ now (bytes .exit) ≡ laid at (lines (outputNumbers (now (outputs .entry)))) (now (bytes .entry)) ⌝ }
 {
     let mut next = at;
     let mut k: usize = 0;
@@ -93,9 +93,9 @@ fn put_outputs(bytes: &mut [u8], at: usize, outputs: &[u32]) -> usize
 
 fn put_gates(bytes: &mut [u8], at: usize, inputs: u32, gates: &[u32]) -> usize
     requires { ⌜ (inputs ≤ mostInputs) × (length (now gates) ≤ 2 * mostGates) ⌝ }
-    requires { ⌜ at + length (gateLines (netOf inputs (now gates)) (λ k. false)) ≤ length (now bytes) ⌝ }
-    ensures { λ r. ⌜ r ≡ at + length (gateLines (netOf inputs (now (gates .entry))) (λ k. false)) ⌝ }
-    ensures { λ _. ⌜ now (bytes .exit) ≡ laid at (gateLines (netOf inputs (now (gates .entry))) (λ k. false)) (now (bytes .entry)) ⌝ }
+    requires { ⌜ at + length (lines (gateNumbers (netOf inputs (now gates)) (λ k. false))) ≤ length (now bytes) ⌝ }
+    ensures { λ r. ⌜ r ≡ at + length (lines (gateNumbers (netOf inputs (now (gates .entry))) (λ k. false))) ⌝ }
+    ensures { λ _. ⌜ now (bytes .exit) ≡ laid at (lines (gateNumbers (netOf inputs (now (gates .entry))) (λ k. false))) (now (bytes .entry)) ⌝ }
 {
     let count = (gates.len() / 2) as u32;
     let mut next = at;

@@ -7,9 +7,8 @@ use borrow.Author.Needs.{needs}
 use lib.ListN.{length}
 use Rattle.graph.specs.Graph.{graphOf, WellFormed}
 use Rattle.graph.proofs.Graph.{well-formed}
-use Rattle.text.specs.States.{outputLines}
 use Rattle.graph.proofs.Laying.{put-then}
-use Rattle.writer.proofs.Writing.{firstLine, inputPart, gatePart, text-parts, text-size}
+use Rattle.writer.proofs.Writing.{firstLine, inputPart, outputPart, gatePart, text-parts, text-size}
 use Rattle.writer.proofs.put.put_text.Statement.{statement}
 use Rattle.writer.proofs.put.put_text.Tie as tie
 
@@ -19,7 +18,7 @@ limits c = well-formed _ (c .pre .0)
 -- there is room for the four parts
 room : (c : tie.Start) → length (firstLine (c .args .inputs) (c .args .gates .now) (c .args .outputs .now))
     + length (inputPart (c .args .inputs))
-    + length (outputLines (c .args .outputs .now))
+    + length (outputPart (c .args .outputs .now))
     + length (gatePart (c .args .inputs) (c .args .gates .now))
     ≤ length (c .args .bytes .now)
 room c = rw (text-size (c .args .inputs) (c .args .gates .now) (c .args .outputs .now)) at (c .pre .1)
@@ -66,8 +65,8 @@ returns c =
     let i = inputPart (a .inputs) in
     let fits = room start in
     rw (text-parts (a .inputs) gs os)
-    (put-then 0 (f ++ i ++ outputLines os) (gatePart (a .inputs) gs) bytes (omega arith)
-    (put-then 0 (f ++ i) (outputLines os) bytes (omega arith)
+    (put-then 0 (f ++ i ++ outputPart os) (gatePart (a .inputs) gs) bytes (omega arith)
+    (put-then 0 (f ++ i) (outputPart os) bytes (omega arith)
     (put-then 0 f i bytes (omega arith)
     (omega (arith, header .put-header .ensures .0), header .put-header .ensures .1)
     (inputs .put-inputs .ensures))

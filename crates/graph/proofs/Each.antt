@@ -7,15 +7,15 @@ use mathlib.Core.Logic.{_⊎_, ⊎-elim}
 use Prim.Native.Nat.{ℕ, zero, suc, _<_}
 use native.Mathlib.Nat.{le-refl}
 use native.Mathlib.Omega.{arith}
 use Rattle.graph.specs.Lists.{_∈_, here, later, gather, keep}
 use Rattle.graph.proofs.Members.{none-in, in-cons, in-either}
 
 -- P holds at each member
 abbrev pub Each : {A : Type 0} → (A → Type 0) → List A → Type 0
 Each {A} P xs = (x : A) → x ∈ xs → P x
 
 module _ {A : Type 0} (P : A → Type 0) where
-  each-none : Each P []
+  pub each-none : Each P []
   each-none x m = absurd (none-in m)
 
   each-more : (y : A) (ys : List A) → P y → Each P ys → Each P (y ∷ ys)
