@@ -12,7 +12,6 @@ pub mod Stand
 pub mod Drop
 pub mod DropKeeps
 pub mod Refuse
-pub mod Rows
 pub mod Tests
 pub mod Evaluate
 pub mod Gathered

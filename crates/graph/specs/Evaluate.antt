@@ -13,7 +13,7 @@ use Rattle.graph.specs.declared.evaluated.Evaluated.{Evaluated}
 use Rattle.graph.specs.declared.evaluated.Evaluated.the-variants.{Outputs, Refused}
 use Rattle.graph.specs.Lists.{all}
 use Rattle.graph.specs.Lent.{short, written, Effect, _leaving_}
-use Rattle.graph.specs.Refuse.{Row, _⇒_, firstRefusal, Outcome, accepted, refused}
+use Rattle.graph.specs.Refuse.{numberOf, Row, _⇒_, firstRefusal, Outcome, accepted, refused}
 use Rattle.graph.specs.Graph.{Net, Graph, free, last, sinks, wellFormed, WellFormed}
 use Rattle.graph.specs.Literal.{varOf, isOdd}
 use Rattle.graph.specs.Sweep.{bools, turned, litValue, values, valueAt}
@@ -54,6 +54,10 @@ isAssignment net vs = eqb (length vs) (free net) && all (λ x. leb x 1) vs
 pub record Assignment (net : Net) (vs : List ℕ) : Type 0 where
   pub count : length vs ≡ free net
   pub each : (j : ℕ) → j < length vs → getD vs j 0 ≤ 1
+
+-- its refusals rank by their numbers
+abbrev pub evaluateRank : Refusal → ℕ
+evaluateRank = numberOf
 
 -- when evaluating is refused
 pub data EvaluateGiven (g : Graph) (vs lent : List ℕ) : Refusal → Type 0 where

@@ -82,12 +82,12 @@ unfoldable pub verdictOutcome : Verdict → List ℕ → Outcome
 verdictOutcome (Verdict.Fine) xs = accepted xs
 verdictOutcome (Verdict.Refused r) xs = refused r
 
--- of the refusals that are given for something, the one with the lowest number
-pub record Lowest (given : Refusal → Type 0) (r : Refusal) : Type 0 where
+-- of the refusals that are given for something, the one of lowest rank; a call says what ranks them
+pub record Lowest (rank : Refusal → ℕ) (given : Refusal → Type 0) (r : Refusal) : Type 0 where
   pub holds : given r
-  pub none-lower : (q : Refusal) → numberOf q < numberOf r → ¬ given q
+  pub none-lower : (q : Refusal) → rank q < rank r → ¬ given q
 
 -- the number of an answer: the lowest refusal's, or 0 where none is given
-pub record Answers (given : Refusal → Type 0) (number : ℕ) : Type 0 where
-  pub refuses : (r : Refusal) → (number ≡ numberOf r) ↔ Lowest given r
+pub record Answers (rank : Refusal → ℕ) (given : Refusal → Type 0) (number : ℕ) : Type 0 where
+  pub refuses : (r : Refusal) → (number ≡ numberOf r) ↔ Lowest rank given r
   pub accepts : (number ≡ 0) ↔ ((q : Refusal) → ¬ given q)

@@ -11,10 +11,14 @@ use Rattle.graph.specs.Lent.{short, written, Effect, _leaving_}
 use Rattle.graph.specs.Refuse.{firstRefusal, Outcome, accepted, refused, numberOf}
 use Rattle.graph.specs.Graph.{Graph}
 use Rattle.window.specs.declared.leaf_set.Leaves.{Leaves}
-use Rattle.window.specs.Calls.{windowRefusals, WindowGiven}
+use Rattle.window.specs.Calls.{windowRefusals, windowRank, WindowGiven}
 use Rattle.listing.specs.declared.Candidate.{Candidate}
 use Rattle.listing.specs.declared.Listed.{Listed}
 use Rattle.listing.specs.Listing.{listed}
+
+-- its refusals rank by their numbers
+abbrev pub listRank : Refusal → ℕ
+listRank = windowRank
 
 -- when listing is refused
 pub data ListGiven (g : Graph) (root : ℕ) (w : Leaves) (lent : List Candidate) : Refusal → Type 0 where

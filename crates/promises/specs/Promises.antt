@@ -18,8 +18,8 @@ use Rattle.text.specs.States.{textOf}
 use Rattle.text.specs.Calls.{readEffect}
 
 -- demand 1: the call's number is the one that the order of refusals selects, and a refusal writes nothing into lent memory
-pub record Settled {L : Type 0} (given : Refusal → Type 0) (number : ℕ) (lent-before lent-after : L) : Type 0 where
-  pub answers : Answers given number
+pub record Settled {L : Type 0} (rank : Refusal → ℕ) (given : Refusal → Type 0) (number : ℕ) (lent-before lent-after : L) : Type 0 where
+  pub answers : Answers rank given number
   pub writes-nothing : (r : Refusal) → number ≡ numberOf r → lent-after ≡ lent-before
 
 -- demand 2: the graph h in the place of g

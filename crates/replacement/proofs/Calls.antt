@@ -13,8 +13,19 @@ use Rattle.graph.specs.Refuse.{firstRefusal, numberOf, Lowest, Answers}
 use Rattle.graph.specs.Use.{usedGates}
 use Rattle.graph.specs.Graph.{Graph}
 use Rattle.graph.proofs.Graph.{well-formed-iff}
-use Rattle.graph.proofs.Refuse.{settles-answers, shown, none-shown}
-use Rattle.graph.proofs.Rows.{Decides, Silent, ascends, first-settles, decides-join, none-silent, none-parts}
+use Rattle.graph.proofs.Refuse.{
+  numberOf-injective,
+  shown,
+  none-shown,
+  settles-answers,
+  ascends,
+  Silent,
+  Decides,
+  none-silent,
+  first-settles,
+  none-parts,
+  decides-join,
+}
 use Rattle.graph.proofs.Tests.{denial-on, denial-off, test-off, eqb-iff, no-room-iff}
 use Rattle.window.specs.declared.leaf_set.Leaves.{Leaves}
 use Rattle.window.specs.Table.{table, sameTable}
@@ -25,6 +36,7 @@ use Rattle.replacement.specs.Proposal.{Allowed, proposedTable}
 use Rattle.replacement.specs.Rewire.{finished}
 use Rattle.replacement.specs.Calls.{
   equalTables,
+  applyRank,
   ApplyGiven,
   by-window,
   bad-candidate,
@@ -57,19 +69,23 @@ module _ (g : Graph) (root : ℕ) (w : Leaves) (p : Proposal) where
 
   module _ (b : Buffers) where
     -- the four rows of a window stand before the others
-    apply-complete : (q : Refusal) → ApplyGiven g root w p b q → WindowGiven g root w q ⊎ (¬ Silent (numberOf q) (applyRefusals g root w p b))
+    apply-complete : (q : Refusal) → ApplyGiven g root w p b q
+        → WindowGiven g root w q ⊎ (¬ Silent applyRank q (applyRefusals g root w p b))
     unfolding applyRefusals windowRefusals rootRefusals
     apply-complete q (by-window h) = inl h
     apply-complete q (bad-candidate h) = inr (λ s. let t = s .1 .1 .1 .1 in h (denial-off _ (allowed-iff (g .net) root w p) (t .0 refl)))
     apply-complete q (not-equal h) = inr (λ s. let t = s .1 .1 .1 .1 in h (denial-off _ (equal-iff g root w p) (t .1 .0 refl)))
-    apply-complete q (no-gain h) = inr (λ s. let t = s .1 .1 .1 .1 in let f = denial-off _ (gain-iff g root p) (t .1 .1 .0 refl) in omega arith)
-    apply-complete q (order-lost h) = inr (λ s. let t = s .1 .1 .1 .1 in h (denial-off _ (well-formed-iff (finished g root p)) (t .1 .1 .1 .0 refl)))
-    apply-complete q (no-room h) = inr (λ s. let t = s .1 .1 .1 .1 in test-off _ (no-room-iff (finished g root p) b) (t .1 .1 .1 .1 .0 refl) h)
+    apply-complete q (no-gain h) =
+        inr (λ s. let t = s .1 .1 .1 .1 in let f = denial-off _ (gain-iff g root p) (t .1 .1 .0 refl) in omega arith)
+    apply-complete q (order-lost h) =
+        inr (λ s. let t = s .1 .1 .1 .1 in h (denial-off _ (well-formed-iff (finished g root p)) (t .1 .1 .1 .0 refl)))
+    apply-complete q (no-room h) =
+        inr (λ s. let t = s .1 .1 .1 .1 in test-off _ (no-room-iff (finished g root p) b) (t .1 .1 .1 .1 .0 refl) h)
 
     no-fewer : ¬ (usedGates (finished g root p) < usedGates g) → usedGates g ≤ usedGates (finished g root p)
     no-fewer n = omega arith
 
-    apply-decides : Decides (ApplyGiven g root w p b) (applyRefusals g root w p b)
+    apply-decides : Decides applyRank (ApplyGiven g root w p b) (applyRefusals g root w p b)
     unfolding applyRefusals windowRefusals rootRefusals ascends
     apply-decides = decides-join (λ q. by-window) _ (window-decides g root w) refl
         (λ _. (
@@ -87,17 +103,20 @@ module _ (g : Graph) (root : ℕ) (w : Leaves) (p : Proposal) where
         ))
         apply-complete
 
-    pub apply-answers : Answers (ApplyGiven g root w p b) ((appliedOutcome ((applyEffect g root w p b) .answer)) .number)
+    pub apply-answers : Answers applyRank (ApplyGiven g root w p b) ((appliedOutcome ((applyEffect g root w p b) .answer)) .number)
     unfolding applyEffect appliedOutcome
-    apply-answers = settles-answers (first-settles apply-decides) _ (λ q e. rw (e, applyEffect)) (λ e. rw (e, applyEffect))
+    apply-answers =
+        settles-answers numberOf-injective (first-settles apply-decides) _ (λ q e. rw (e, applyEffect)) (λ e. rw (e, applyEffect))
 
     -- a refusal leaves the lent lists as they were
     pub apply-writes-nothing : (r : Refusal) → (appliedOutcome ((applyEffect g root w p b) .answer)) .number ≡ numberOf r
         → (applyEffect g root w p b) .lent ≡ b
     unfolding applyEffect appliedOutcome
-    apply-writes-nothing r e = let s = shown (firstRefusal (applyRefusals g root w p b)) _ (λ n. rw (n, applyEffect)) r e in rw (s .1, applyEffect)
+    apply-writes-nothing r e =
+        let s = shown (firstRefusal (applyRefusals g root w p b)) _ (λ n. rw (n, applyEffect)) r e in rw (s .1, applyEffect)
 
-    pub apply-none-given : (appliedOutcome ((applyEffect g root w p b) .answer)) .number ≡ 0 → firstRefusal (applyRefusals g root w p b) ≡ none
+    pub apply-none-given : (appliedOutcome ((applyEffect g root w p b) .answer)) .number ≡ 0
+        → firstRefusal (applyRefusals g root w p b) ≡ none
     unfolding applyEffect appliedOutcome
     apply-none-given e = none-shown (firstRefusal (applyRefusals g root w p b)) _ (λ q r. rw (r, applyEffect)) e
 
@@ -106,7 +125,7 @@ module _ (g : Graph) (root : ℕ) (w : Leaves) (p : Proposal) where
     unfolding applyRefusals
     apply-accepted e =
         let parts = none-parts (windowRefusals g root w) _ (apply-none-given e) in
-        let s = none-silent (numberOf NoGain) _ (parts .1) in
+        let s = none-silent applyRank NoGain _ (parts .1) in
         record {
           window = window-accepted g root w (parts .0);
           rule = denial-off _ (allowed-iff (g .net) root w p) (s .0 refl);
@@ -115,13 +134,14 @@ module _ (g : Graph) (root : ℕ) (w : Leaves) (p : Proposal) where
         }
 
     -- where the order would be lost a lower refusal holds
-    never-given : Lowest (ApplyGiven g root w p b) OrderLost → ¬ ApplyGiven g root w p b OrderLost
+    never-given : Lowest applyRank (ApplyGiven g root w p b) OrderLost → ¬ ApplyGiven g root w p b OrderLost
     never-given l (by-window h) = absurd (omega (arith, window-at-most g root w h))
     never-given l (order-lost h) =
         l .none-lower BadGraph (omega arith) (by-window (by-root (bad-graph (λ ok.
         l .none-lower BadRoot (omega arith) (by-window (by-root (bad-root (λ used.
         l .none-lower BadCandidate (omega arith) (bad-candidate (λ rule.
-        l .none-lower NoGain (omega arith) (no-gain (no-fewer (λ fewer. h (finished-well-formed g ok root (used .is-gate) w p rule fewer))))))))))))))
+        l .none-lower NoGain (omega arith) (no-gain (no-fewer (λ fewer.
+        h (finished-well-formed g ok root (used .is-gate) w p rule fewer))))))))))))))
 
     pub order-lost-never-given : ¬ ((appliedOutcome ((applyEffect g root w p b) .answer)) .number ≡ numberOf OrderLost)
     order-lost-never-given e = let l = apply-answers .refuses OrderLost .0 e in never-given l (l .holds)

@@ -14,7 +14,7 @@ use Rattle.graph.specs.Use.{usedGates}
 use Rattle.graph.specs.Graph.{Graph, size, wellFormed, WellFormed}
 use Rattle.window.specs.declared.leaf_set.Leaves.{Leaves}
 use Rattle.window.specs.Table.{table, sameTable}
-use Rattle.window.specs.Calls.{windowRefusals, WindowGiven}
+use Rattle.window.specs.Calls.{windowRefusals, windowRank, WindowGiven}
 use Rattle.replacement.specs.declared.types.Proposal.{Proposal}
 use Rattle.replacement.specs.declared.types.Applied.{Applied}
 use Rattle.replacement.specs.Proposal.{allowed, Allowed, proposedTable}
@@ -24,6 +24,10 @@ use Rattle.replacement.specs.Rewire.{finished, gain, atLeastOne}
 unfoldable pub equalTables : Graph → ℕ → Leaves → Proposal → Bool
 unfolding sameTable table proposedTable
 equalTables g root w p = sameTable (proposedTable (g .net) root w p) (table (g .net) w root)
+
+-- its refusals rank by their numbers
+abbrev pub applyRank : Refusal → ℕ
+applyRank = windowRank
 
 -- when applying a proposal is refused
 pub data ApplyGiven (g : Graph) (root : ℕ) (w : Leaves) (p : Proposal) (b : Buffers) : Refusal → Type 0 where

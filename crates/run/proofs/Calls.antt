@@ -8,23 +8,32 @@ use Rattle.graph.specs.Lent.{noRoomFor, NoRoomFor}
 use Rattle.graph.specs.Refuse.{firstRefusal, numberOf, Answers}
 use Rattle.graph.specs.Graph.{Graph}
 use Rattle.graph.proofs.Graph.{well-formed-iff}
-use Rattle.graph.proofs.Refuse.{settles-answers, shown}
-use Rattle.graph.proofs.Rows.{Decides, Silent, ascends, first-settles}
+use Rattle.graph.proofs.Refuse.{numberOf-injective, shown, settles-answers, ascends, Silent, Decides, first-settles}
 use Rattle.graph.proofs.Tests.{denial-on, denial-off, test-off, or-iff, no-room-iff}
-use Rattle.run.specs.Calls.{RunBuffers, RunGiven, bad-graph, no-room-for-result, no-room-for-work, runRefusals, runEffect, ranOutcome}
+use Rattle.run.specs.Calls.{
+  RunBuffers,
+  runRank,
+  RunGiven,
+  bad-graph,
+  no-room-for-result,
+  no-room-for-work,
+  runRefusals,
+  runEffect,
+  ranOutcome,
+}
 
 module _ (g : Graph) (b : RunBuffers) where
   -- the result's room or the work area's is too little
   room-iff : (noRoomFor g (b .result) || noRoomFor g (b .work) ≡ true) ↔ (NoRoomFor g (b .result) ⊎ NoRoomFor g (b .work))
   room-iff = or-iff _ _ (no-room-iff g (b .result)) (no-room-iff g (b .work))
 
-  run-complete : (q : Refusal) → RunGiven g b q → ¬ Silent (numberOf q) (runRefusals g b)
+  run-complete : (q : Refusal) → RunGiven g b q → ¬ Silent runRank q (runRefusals g b)
   unfolding runRefusals
   run-complete q (bad-graph h) s = h (denial-off _ (well-formed-iff g) (s .0 refl))
   run-complete q (no-room-for-result h) s = test-off _ room-iff (s .1 .0 refl) (inl h)
   run-complete q (no-room-for-work h) s = test-off _ room-iff (s .1 .0 refl) (inr h)
 
-  run-decides : Decides (RunGiven g b) (runRefusals g b)
+  run-decides : Decides runRank (RunGiven g b) (runRefusals g b)
   unfolding runRefusals ascends
   run-decides = record {
     ascending = refl;
@@ -35,9 +44,9 @@ module _ (g : Graph) (b : RunBuffers) where
     complete = run-complete;
   }
 
-  pub run-answers : Answers (RunGiven g b) ((ranOutcome ((runEffect g b) .answer)) .number)
+  pub run-answers : Answers runRank (RunGiven g b) ((ranOutcome ((runEffect g b) .answer)) .number)
   unfolding runEffect ranOutcome
-  run-answers = settles-answers (first-settles run-decides) _ (λ q e. rw (e, runEffect)) (λ e. rw (e, runEffect))
+  run-answers = settles-answers numberOf-injective (first-settles run-decides) _ (λ q e. rw (e, runEffect)) (λ e. rw (e, runEffect))
 
   -- a refusal leaves all four lent lists as they were
   pub run-writes-nothing : (r : Refusal) → (ranOutcome ((runEffect g b) .answer)) .number ≡ numberOf r → (runEffect g b) .lent ≡ b

@@ -9,7 +9,7 @@ use Rattle.graph.specs.declared.refusal.Refusal.{Refusal}
 use Rattle.graph.specs.declared.refusal.Refusal.the-variants.{BadGraph, NoRoom}
 use Rattle.graph.specs.Lists.{filled}
 use Rattle.graph.specs.Lent.{Buffers, noRoomFor, NoRoomFor, storedIn, Effect, _leaving_}
-use Rattle.graph.specs.Refuse.{Row, _⇒_, firstRefusal, Outcome, accepted, refused}
+use Rattle.graph.specs.Refuse.{numberOf, Row, _⇒_, firstRefusal, Outcome, accepted, refused}
 use Rattle.graph.specs.Graph.{Graph, graphOf, size, wellFormed, WellFormed}
 use Rattle.run.specs.declared.Ran.{Ran}
 use Rattle.run.specs.Run.{run}
@@ -18,6 +18,10 @@ use Rattle.run.specs.Run.{run}
 pub record RunBuffers : Type 0 where
   pub result : Buffers
   pub work : Buffers
+
+-- its refusals rank by their numbers
+abbrev pub runRank : Refusal → ℕ
+runRank = numberOf
 
 -- when a run is refused
 pub data RunGiven (g : Graph) (b : RunBuffers) : Refusal → Type 0 where

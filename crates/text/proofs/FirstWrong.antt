@@ -5,16 +5,15 @@ use mathlib.Core.Bool.{Bool, true, false, cond}
 use mathlib.Core.List.{List, [], _∷_}
 use mathlib.Core.Logic.{_↔_}
 use mathlib.Core.Option.{Option, none, some, Option·none-ne-some}
-use Prim.Native.Nat.{ℕ, _<_}
+use Prim.Native.Nat.{ℕ, _≤_}
 use native.Mathlib.Omega.{arith}
 use Rattle.graph.specs.declared.refusal.Refusal.{Refusal}
 use Rattle.graph.specs.declared.refusal.Refusal.the-variants.{BadLine, BadLiteral}
-use Rattle.graph.specs.Refuse.{numberOf}
 use Rattle.text.specs.Number.{Front, front}
 use Rattle.text.specs.Line.{lineOf}
 use Rattle.text.specs.States.{skipped}
 use Rattle.text.specs.Reading.{Needed, Lines, wrong, right, withLine, readLines}
-use Rattle.text.specs.Refusals.{Shaped, FirstWrong, bad-rest, misshapen, breaks, later}
+use Rattle.text.specs.Refusals.{readRank, Shaped, FirstWrong, bad-rest, misshapen, breaks, later}
 use Rattle.text.proofs.Cases.{wrong-injective, wrong-not-right}
 use Rattle.text.proofs.Line.{line-of-iff}
 
@@ -82,8 +81,9 @@ pub first-wrong-iff : (needs : List Needed) (t : List ℕ) (r : Refusal) → (re
 first-wrong-iff needs t r = (lines-wrong needs t r, wrong-lines)
 
 -- it is a BAD LINE or a BAD LITERAL
-pub wrong-number : {needs : List Needed} {t : List ℕ} {r : Refusal} → FirstWrong needs t r → (4 < numberOf r) × (numberOf r < 7)
-wrong-number (bad-rest e) = omega arith
-wrong-number (misshapen h) = omega arith
-wrong-number (breaks s e) = omega arith
-wrong-number (later s e w) = wrong-number w
+pub wrong-rank : {needs : List Needed} {t : List ℕ} {r : Refusal} → FirstWrong needs t r
+    → (readRank BadLine ≤ readRank r) × (readRank r ≤ readRank BadLiteral)
+wrong-rank (bad-rest e) = omega arith
+wrong-rank (misshapen h) = omega arith
+wrong-rank (breaks s e) = omega arith
+wrong-rank (later s e w) = wrong-rank w

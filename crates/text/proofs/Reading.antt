@@ -13,10 +13,10 @@ use lib.ListN.{length, getD}
 use Rattle.graph.specs.declared.refusal.Refusal.{Refusal}
 use Rattle.graph.specs.declared.refusal.Refusal.the-variants.{BadHeader, BadCount}
 use Rattle.graph.specs.Lists.{gather}
-use Rattle.graph.specs.Refuse.{firstRefusal, numberOf}
+use Rattle.graph.specs.Refuse.{firstRefusal}
 use Rattle.graph.specs.Lent.{Buffers, noRoomFor, storedIn, _leaving_}
 use Rattle.graph.specs.Graph.{Graph, Lawful, size, mostInputs, mostOutputs, mostGates}
-use Rattle.graph.proofs.Rows.{none-silent}
+use Rattle.graph.proofs.Refuse.{none-silent}
 use Rattle.graph.proofs.Tests.{test-off, denial-off, or-iff, ltb-iff, eqb-iff}
 use Rattle.text.specs.declared.header.Header.{Header}
 use Rattle.text.specs.declared.ReadText.{ReadText}
@@ -24,7 +24,7 @@ use Rattle.text.specs.Number.{Front, front}
 use Rattle.text.specs.Line.{line, lines}
 use Rattle.text.specs.States.{aag, counts, numbersOf, spelling}
 use Rattle.text.specs.Reading.{Stated, headerOf, freeOf, headerLine, mostBytes, headerRefusals, linesNeeded, Lines, wrong, right, readLines, graphRead, Reading, refuses, yields, readBody, reading}
-use Rattle.text.specs.Refusals.{Headed}
+use Rattle.text.specs.Refusals.{Headed, readRank}
 use Rattle.text.specs.Calls.{withRoom, readEffect}
 use Rattle.text.proofs.Cases.{refuses-not-yields, yields-injective}
 use Rattle.text.proofs.Line.{header-line-iff}
@@ -87,7 +87,7 @@ module _ (t : List ℕ) (h : Header) where
   header-within : firstRefusal (headerRefusals t h) ≡ none → WithinLimits t h
   unfolding headerRefusals
   header-within e =
-      let s = none-silent (numberOf BadCount) (headerRefusals t h) e in
+      let s = none-silent readRank BadCount (headerRefusals t h) e in
       let not-large = test-off _ large-iff (s .0 refl) in
       record {
         inputs-few = not-over _ _ (λ l. not-large (inl (inl (inl l))));

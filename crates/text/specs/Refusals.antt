@@ -7,6 +7,7 @@ use mathlib.Core.List.{List, [], _∷_, _++_}
 use lib.ListN.{length, getD}
 use Rattle.graph.specs.declared.refusal.Refusal.{Refusal}
 use Rattle.graph.specs.declared.refusal.Refusal.the-variants.{BadHeader, TooLarge, Latches, BadCount, BadLine, BadLiteral, BadGraph, NoRoom}
+use Rattle.graph.specs.Refuse.{numberOf}
 use Rattle.graph.specs.Graph.{Graph, WellFormed, mostInputs, mostOutputs, mostGates}
 use Rattle.graph.specs.Lent.{Buffers, NoRoomFor}
 use Rattle.text.specs.Number.{mostNumber}
@@ -36,6 +37,10 @@ pub data FirstWrong : List Needed → List ℕ → Refusal → Type 0 where
   later : {need : Needed} {needs : List Needed} {t ns rest : List ℕ} {r : Refusal} → Shaped (need .numbers) t ns rest → need .rule ns ≡ true
       → FirstWrong needs rest r → FirstWrong (need ∷ needs) t r
 
+-- its refusals rank by their numbers
+abbrev pub readRank : Refusal → ℕ
+readRank = numberOf
+
 -- when reading is refused
 pub data ReadGiven (t : List ℕ) (b : Buffers) : Refusal → Type 0 where
   bad-header : ((ns rest : List ℕ) → ¬ Headed t ns rest) → ReadGiven t b BadHeader
@@ -48,6 +53,10 @@ pub data ReadGiven (t : List ℕ) (b : Buffers) : Refusal → Type 0 where
       → ReadGiven t b BadCount
   wrong-line : {ns rest : List ℕ} {r : Refusal} → Headed t ns rest → FirstWrong (linesNeeded (headerOf ns)) rest r → ReadGiven t b r
   no-room : {g : Graph} → States t g → NoRoomFor g b → ReadGiven t b NoRoom
+
+-- its refusals rank by their numbers
+abbrev pub writeRank : Refusal → ℕ
+writeRank = numberOf
 
 -- when writing is refused
 pub data WriteGiven (g : Graph) (lent : List ℕ) : Refusal → Type 0 where

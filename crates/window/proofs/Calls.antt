@@ -13,20 +13,21 @@ use Rattle.graph.specs.Graph.{Graph, wellFormed, WellFormed}
 use Rattle.graph.specs.Use.{inUse, InUse}
 use Rattle.graph.proofs.Graph.{well-formed-iff}
 use Rattle.graph.proofs.Use.{in-use-iff}
-use Rattle.graph.proofs.Refuse.{settles-answers}
-use Rattle.graph.proofs.Rows.{Decides, Silent, ascends, first-settles, decides-join, none-silent}
+use Rattle.graph.proofs.Refuse.{numberOf-injective, settles-answers, ascends, Silent, Decides, none-silent, first-settles, decides-join}
 use Rattle.graph.proofs.Tests.{denial-on, denial-off}
 use Rattle.window.specs.declared.leaf_set.Leaves.{Leaves}
 use Rattle.window.specs.Leaves.{WellSet}
 use Rattle.window.specs.Local.{covered, Covered}
 use Rattle.window.specs.Calls.{
   rootRefusals,
+  rootRank,
   RootGiven,
   bad-graph,
   bad-root,
   pickAnswer,
   pickOutcome,
   windowRefusals,
+  windowRank,
   WindowGiven,
   by-root,
   bad-leaves,
@@ -50,12 +51,12 @@ module _ (g : Graph) (root : ℕ) where
   known-root : not (wellFormed g) ≡ false → not (inUse g root) ≡ false → WellFormed g × InUse g root
   known-root e f = let ok = known-graph g e in (ok, denial-off _ (root-iff ok) f)
 
-  root-complete : (q : Refusal) → RootGiven g root q → ¬ Silent (numberOf q) (rootRefusals g root)
+  root-complete : (q : Refusal) → RootGiven g root q → ¬ Silent rootRank q (rootRefusals g root)
   unfolding rootRefusals
   root-complete q (bad-graph h) s = h (known-graph g (s .0 refl))
   root-complete q (bad-root h) s = h (known-root (s .0 refl) (s .1 .0 refl) .1)
 
-  pub root-decides : Decides (RootGiven g root) (rootRefusals g root)
+  pub root-decides : Decides rootRank (RootGiven g root) (rootRefusals g root)
   unfolding rootRefusals ascends
   root-decides = record {
     ascending = refl;
@@ -66,9 +67,9 @@ module _ (g : Graph) (root : ℕ) where
     complete = root-complete;
   }
 
-  pub pick-answers : Answers (RootGiven g root) ((pickOutcome (pickAnswer g root)) .number)
+  pub pick-answers : Answers rootRank (RootGiven g root) ((pickOutcome (pickAnswer g root)) .number)
   unfolding pickAnswer pickOutcome verdictOutcome
-  pick-answers = settles-answers (first-settles root-decides) _ (λ q e. rw (e, pickAnswer)) (λ e. rw (e, pickAnswer))
+  pick-answers = settles-answers numberOf-injective (first-settles root-decides) _ (λ q e. rw (e, pickAnswer)) (λ e. rw (e, pickAnswer))
 
 -- ---- leaves besides that cut the root
 
@@ -84,7 +85,7 @@ module _ (g : Graph) (root : ℕ) (w : Leaves) where
   cut-iff : WellFormed g → InUse g root → (covered (g .net) w root ≡ true) ↔ Covered (g .net) w root
   cut-iff ok used = covered-iff g (ok .lawful) w root (used .is-gate .within)
 
-  silent-window : Silent (numberOf NotACut) (windowRefusals g root w) → Window g root w
+  silent-window : Silent windowRank NotACut (windowRefusals g root w) → Window g root w
   unfolding windowRefusals rootRefusals
   silent-window s =
       let known = known-root g root (s .0 refl) (s .1 .0 refl) in
@@ -96,19 +97,19 @@ module _ (g : Graph) (root : ℕ) (w : Leaves) where
       }
 
   pub window-accepted : firstRefusal (windowRefusals g root w) ≡ none → Window g root w
-  window-accepted e = silent-window (none-silent (numberOf NotACut) (windowRefusals g root w) e)
+  window-accepted e = silent-window (none-silent windowRank NotACut (windowRefusals g root w) e)
 
-  window-complete : (q : Refusal) → WindowGiven g root w q → RootGiven g root q ⊎ (¬ Silent (numberOf q) (windowRefusals g root w))
+  window-complete : (q : Refusal) → WindowGiven g root w q → RootGiven g root q ⊎ (¬ Silent windowRank q (windowRefusals g root w))
   unfolding windowRefusals rootRefusals
   window-complete q (by-root h) = inl h
   window-complete q (bad-leaves h) = inr (λ s. h (denial-off _ (well-set-iff root w) (s .1 .1 .0 refl)))
   window-complete q (not-a-cut h) = inr (λ s. h (silent-window s .cut))
 
-  pub window-decides : Decides (WindowGiven g root w) (windowRefusals g root w)
+  pub window-decides : Decides windowRank (WindowGiven g root w) (windowRefusals g root w)
   unfolding windowRefusals rootRefusals ascends
   window-decides = decides-join (λ q. by-root) _ (root-decides g root) refl
       (λ e.
-      let s = none-silent (numberOf BadRoot) (rootRefusals g root) e in
+      let s = none-silent rootRank BadRoot (rootRefusals g root) e in
       let known = known-root g root (s .0 refl) (s .1 .0 refl) in (
         λ f. bad-leaves (denial-on _ (well-set-iff root w) f),
         λ _. (λ f. not-a-cut (denial-on _ (cut-iff (known .0) (known .1)) f), λ _. tt),
@@ -122,6 +123,7 @@ module _ (g : Graph) (root : ℕ) (w : Leaves) where
   window-at-most (bad-leaves h) = omega arith
   window-at-most (not-a-cut h) = omega arith
 
-  pub table-answers : Answers (WindowGiven g root w) ((tableOutcome (tableAnswer g root w)) .number)
+  pub table-answers : Answers windowRank (WindowGiven g root w) ((tableOutcome (tableAnswer g root w)) .number)
   unfolding tableAnswer tableOutcome
-  table-answers = settles-answers (first-settles window-decides) _ (λ q e. rw (e, tableAnswer)) (λ e. rw (e, tableAnswer))
+  table-answers =
+      settles-answers numberOf-injective (first-settles window-decides) _ (λ q e. rw (e, tableAnswer)) (λ e. rw (e, tableAnswer))

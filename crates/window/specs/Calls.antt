@@ -6,7 +6,7 @@ use mathlib.Core.List.{List, [], _∷_, _++_}
 use mathlib.Core.Option.{none, some}
 use Rattle.graph.specs.declared.refusal.Refusal.{Refusal}
 use Rattle.graph.specs.declared.refusal.Refusal.the-variants.{BadGraph, BadRoot, BadLeaves, NotACut}
-use Rattle.graph.specs.Refuse.{Row, _⇒_, firstRefusal, Outcome, verdictOutcome}
+use Rattle.graph.specs.Refuse.{numberOf, Row, _⇒_, firstRefusal, Outcome, verdictOutcome}
 use Rattle.graph.specs.Graph.{Graph, wellFormed, WellFormed}
 use Rattle.graph.specs.Use.{inUse, InUse}
 use Rattle.window.specs.declared.leaf_set.Leaves.{Leaves}
@@ -24,6 +24,10 @@ use Rattle.window.specs.LeafRule.{picked}
 unfoldable pub rootRefusals : Graph → ℕ → List Row
 unfolding wellFormed inUse
 rootRefusals g root = not (wellFormed g) ⇒ BadGraph ∷ not (inUse g root) ⇒ BadRoot ∷ []
+
+-- its refusals rank by their numbers
+abbrev pub rootRank : Refusal → ℕ
+rootRank = numberOf
 
 -- when picking leaves is refused
 pub data RootGiven (g : Graph) (root : ℕ) : Refusal → Type 0 where
@@ -48,6 +52,10 @@ pickOutcome p = verdictOutcome (p .verdict) (p .leaves .count ∷ numbers (p .le
 unfoldable pub windowRefusals : Graph → ℕ → Leaves → List Row
 unfolding rootRefusals wellSet covered
 windowRefusals g root w = rootRefusals g root ++ (not (wellSet root w) ⇒ BadLeaves ∷ not (covered (g .net) w root) ⇒ NotACut ∷ [])
+
+-- its refusals rank by their numbers
+abbrev pub windowRank : Refusal → ℕ
+windowRank = rootRank
 
 -- when a call on a window is refused
 pub data WindowGiven (g : Graph) (root : ℕ) (w : Leaves) : Refusal → Type 0 where
