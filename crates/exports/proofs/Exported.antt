@@ -12,5 +12,5 @@ pub answer-told : {A L : Type 0} (out : A → Outcome) (e : Effect A L) (x : A) 
 answer-told {A} {L} out e x l is n number before after values = record {
   number = number ∙ ap (λ (f : Effect A L). (out (f .answer)) .number) is;
   values = values ∙ ap (λ (f : Effect A L). written ((out (f .answer)) .values) before) is;
-  leaves = ap (λ (f : Effect A L). f .lent) is;
+  lists = ap (λ (f : Effect A L). f .lent) is;
 }

@@ -13,7 +13,7 @@ module _ (text gates outputs before : List ℕ) where
       → Told (readNumbers text gates outputs) ((reads text gates outputs) .lent) before r′ (i′ ∷ a′ ∷ o′ ∷ []) (buffersOf gs′ os′)
       → (r ≡ r′) × (i ≡ i′) × (a ≡ a′) × (o ≡ o′) × (gs ≡ gs′) × (os ≡ os′)
   read-numbers-have-one-result r i a o gs os r′ i′ a′ o′ gs′ os′ m n =
-      let lists = m .leaves ∙ sym (n .leaves) in
+      let lists = m .lists ∙ sym (n .lists) in
       (cc, cc, cc, cc, ap (λ (b : Buffers). b .gates) lists, ap (λ (b : Buffers). b .outputs) lists)
 
 module _ (inputs : ℕ) (gates outputs bytes before : List ℕ) where

@@ -26,4 +26,4 @@ writtenNumbers inputs gates outputs bytes = writtenOutcome ((writes inputs gates
 pub record Told {L : Type 0} (outcome : Outcome) (lent : L) (before : List ℕ) (r : ℕ) (after : List ℕ) (left : L) : Type 0 where
   pub number : r ≡ outcome .number
   pub values : after ≡ written (outcome .values) before
-  pub leaves : left ≡ lent
+  pub lists : left ≡ lent

@@ -55,7 +55,7 @@ use Rattle.run.specs.Calls.{RunBuffers, RunGiven, runRefusals, filledIn, runEff
 use Rattle.run.proofs.Run.{run-well-formed, run-no-larger}
 use Rattle.run.proofs.Calls.{run-answers}
 use Rattle.promises.specs.Promises.{Keeps, Stored, Holds}
-use Rattle.promises.proofs.Meaning.{run-keeps, replacement-keeps, replacement-leaves-fewer-gates}
+use Rattle.promises.proofs.Meaning.{run-keeps, replacement-keeps, replacement-saves-gates}
 use Rattle.promises.proofs.Stored.{stored-written, holds-stored, filled-all}
 
 -- what a test decides holds where its denial is refused
@@ -190,7 +190,7 @@ module _ (g : Graph) (root : ℕ) (w : Leaves) (p : Proposal) (b : Buffers) (acc
   unfolding applyEffect
   apply-stores-finished =
       let kept = replacement-keeps g root w p b accepted in
-      rw (apply-none-given g root w p b accepted, applyEffect) (refl, holds-stored (finished g root p) b (kept .well-formed), kept, replacement-leaves-fewer-gates g root w p b accepted)
+      rw (apply-none-given g root w p b accepted, applyEffect) (refl, holds-stored (finished g root p) b (kept .well-formed), kept, replacement-saves-gates g root w p b accepted)
 
 -- ---- the run
 

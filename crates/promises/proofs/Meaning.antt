@@ -25,7 +25,7 @@ use Rattle.window.proofs.Local.{covered-iff}
 use Rattle.replacement.specs.declared.types.Proposal.{Proposal}
 use Rattle.replacement.specs.Rewire.{finished}
 use Rattle.replacement.specs.Calls.{applyEffect, appliedOutcome}
-use Rattle.replacement.proofs.Finished.{finished-free, finished-all-reached, finished-well-formed, Fits, finished-keeps-outputs}
+use Rattle.replacement.proofs.Finished.{finished-free, finished-all-reached, finished-well-formed, Replaces, finished-keeps-outputs}
 use Rattle.replacement.proofs.Calls.{Accepted, apply-accepted}
 use Rattle.run.specs.Run.{run}
 use Rattle.run.proofs.Run.{run-keeps-inputs, run-keeps-outputs, run-well-formed, run-all-reached}
@@ -95,7 +95,7 @@ module _ (g : Graph) (root : ℕ) (w : Leaves) (p : Proposal) (b : Buffers) (acc
   lawful : Lawful g
   lawful = facts .window .graph .lawful
 
-  fits : Fits g root w p
+  fits : Replaces g root w p
   fits =
       let gate = facts .window .root-used .is-gate in
       record {
@@ -113,5 +113,5 @@ module _ (g : Graph) (root : ℕ) (w : Leaves) (p : Proposal) (b : Buffers) (acc
       (finished-well-formed g (facts .window .graph) root (fits .gate) w p (fits .rule) (facts .fewer))
       (finished-all-reached g lawful root (fits .gate) w p (fits .rule))
 
-  pub replacement-leaves-fewer-gates : usedGates (finished g root p) < usedGates g
-  replacement-leaves-fewer-gates = facts .fewer
+  pub replacement-saves-gates : usedGates (finished g root p) < usedGates g
+  replacement-saves-gates = facts .fewer

@@ -61,7 +61,7 @@ finished-well-formed g ok root gate w p rule fewer = record {
 }
 
 -- all that is asked of a replacement but its gain
-pub record Fits (g : Graph) (root : ℕ) (w : Leaves) (p : Proposal) : Type 0 where
+pub record Replaces (g : Graph) (root : ℕ) (w : Leaves) (p : Proposal) : Type 0 where
   pub lawful : Lawful g
   pub gate : IsGate (g .net) root
   pub few : w .count ≤ leafLimit
@@ -69,14 +69,14 @@ pub record Fits (g : Graph) (root : ℕ) (w : Leaves) (p : Proposal) : Type 0 wh
   pub rule : Allowed (g .net) root w p
   pub equal : proposedTable (g .net) root w p ≡ table (g .net) w root
 
-module _ (g : Graph) (root : ℕ) (w : Leaves) (p : Proposal) (fits : Fits g root w p) where
+module _ (g : Graph) (root : ℕ) (w : Leaves) (p : Proposal) (same : Replaces g root w p) where
   rewired-keeps-outputs : (a : ℕ → Bool) → outputsUnder (rewired g root p) a ≡ outputsUnder g a
   rewired-keeps-outputs a =
-      let wires = wires-of (g .net) root w p (fits .rule) in
-      replaced-keeps-outputs g (rewired g root p) (fits .lawful) (lawful g (fits .lawful) root (fits .gate) w p (fits .rule)) root (fits .gate) w (fits .cut)
-      (standFor root p) (λ vs. proposedValue bools vs p) (equal-table-computes (g .net) root w p (fits .few) (fits .rule) (fits .equal))
-      (rewired-replaced g (fits .lawful) root (fits .gate) p wires) a
+      let wires = wires-of (g .net) root w p (same .rule) in
+      replaced-keeps-outputs g (rewired g root p) (same .lawful) (lawful g (same .lawful) root (same .gate) w p (same .rule)) root (same .gate) w (same .cut)
+      (standFor root p) (λ vs. proposedValue bools vs p) (equal-table-computes (g .net) root w p (same .few) (same .rule) (same .equal))
+      (rewired-replaced g (same .lawful) root (same .gate) p wires) a
 
   pub finished-keeps-outputs : (a : ℕ → Bool) → outputsUnder (finished g root p) a ≡ outputsUnder g a
   unfolding finished
-  finished-keeps-outputs a = dropped-keeps-outputs (rewired g root p) (lawful g (fits .lawful) root (fits .gate) w p (fits .rule)) a ∙ rewired-keeps-outputs a
+  finished-keeps-outputs a = dropped-keeps-outputs (rewired g root p) (lawful g (same .lawful) root (same .gate) w p (same .rule)) a ∙ rewired-keeps-outputs a

@@ -13,14 +13,14 @@ use Rattle.window.specs.declared.leaf_set.Leaves.{Leaves}
 use Rattle.replacement.specs.declared.types.Proposal.{Proposal}
 use Rattle.replacement.specs.Proposal.{Allowed}
 use Rattle.replacement.specs.Rewire.{rewired, finished, gain, atLeastOne}
-use Rattle.replacement.specs.Vanish.{newGates, leaving, heldBack}
+use Rattle.replacement.specs.Vanish.{newGates, vanishing, heldBack}
 use Rattle.replacement.proofs.Rewire.{wires-of, rewired-lawful}
 use Rattle.replacement.proofs.Gain.{difference, same-difference, gain-iff}
 use Rattle.replacement.proofs.Vanish.{new-and, rewired-balance}
 
 module _ (g : Graph) (ok : Lawful g) (root : ℕ) (used : InUse g root) (w : Leaves) (p : Proposal) (rule : Allowed (g .net) root w p) where
   -- in natural numbers
-  pub gain-balance : usedGates (finished g root p) + leaving g root ≡ usedGates g + (newGates p + heldBack g root p)
+  pub gain-balance : usedGates (finished g root p) + vanishing g root ≡ usedGates g + (newGates p + heldBack g root p)
   unfolding finished
   gain-balance =
       let wires = wires-of (g .net) root w p rule in
@@ -30,21 +30,21 @@ module _ (g : Graph) (ok : Lawful g) (root : ℕ) (used : InUse g root) (w : Lea
         rewired-balance g ok root (used .is-gate) p wires (used .is-reached),
       )
 
-  pub gain-law : gain g root p ≡ subℕ (leaving g root) (newGates p + heldBack g root p)
+  pub gain-law : gain g root p ≡ subℕ (vanishing g root) (newGates p + heldBack g root p)
   unfolding gain
-  gain-law = same-difference (usedGates g) (usedGates (finished g root p)) (leaving g root) (newGates p + heldBack g root p) gain-balance
+  gain-law = same-difference (usedGates g) (usedGates (finished g root p)) (vanishing g root) (newGates p + heldBack g root p) gain-balance
 
-  pub gain-iff-more-leave : (atLeastOne (gain g root p) ≡ true) ↔ (newGates p + heldBack g root p < leaving g root)
-  gain-iff-more-leave = (λ e. omega (arith, gain-balance, gain-iff g root p .0 e), λ l. gain-iff g root p .1 (omega (arith, gain-balance)))
+  pub gain-iff-more-vanish : (atLeastOne (gain g root p) ≡ true) ↔ (newGates p + heldBack g root p < vanishing g root)
+  gain-iff-more-vanish = (λ e. omega (arith, gain-balance, gain-iff g root p .0 e), λ l. gain-iff g root p .1 (omega (arith, gain-balance)))
 
   -- the gain is at most what goes less what is put there: a bound that asks nothing of the literals
-  pub gain-bound : (n : ℕ) → gain g root p ≡ pos n → n + newGates p ≤ leaving g root
-  gain-bound n e = let h = difference (leaving g root) (newGates p + heldBack g root p) n (sym gain-law ∙ e) in omega arith
+  pub gain-bound : (n : ℕ) → gain g root p ≡ pos n → n + newGates p ≤ vanishing g root
+  gain-bound n e = let h = difference (vanishing g root) (newGates p + heldBack g root p) n (sym gain-law ∙ e) in omega arith
 
   -- the same of the numbers of gates, whatever the sign
-  pub gain-at-most : usedGates g + newGates p ≤ usedGates (finished g root p) + leaving g root
+  pub gain-at-most : usedGates g + newGates p ≤ usedGates (finished g root p) + vanishing g root
   gain-at-most = omega (arith, gain-balance)
 
   -- an AND gains only where a gate besides the root goes
-  pub and-gain-needs-two : p .kind ≡ 1 → atLeastOne (gain g root p) ≡ true → 2 ≤ leaving g root
-  and-gain-needs-two k e = omega (arith, gain-iff-more-leave .0 e, new-and p k)
+  pub and-gain-needs-two : p .kind ≡ 1 → atLeastOne (gain g root p) ≡ true → 2 ≤ vanishing g root
+  and-gain-needs-two k e = omega (arith, gain-iff-more-vanish .0 e, new-and p k)

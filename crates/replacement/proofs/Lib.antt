@@ -1,6 +1,6 @@
 pub mod Circuit
 pub mod Proposal
-pub mod Pieces
+pub mod NetPieces
 pub mod Rewire
 pub mod Reach
 pub mod Replacement

@@ -17,7 +17,7 @@ use Rattle.window.specs.declared.leaf_set.Leaves.{Leaves}
 use Rattle.replacement.specs.declared.types.Proposal.{Proposal}
 use Rattle.replacement.specs.Proposal.{Allowed, a-literal, an-and}
 use Rattle.replacement.specs.Rewire.{standIn, redirected, rootGates, rewiredGate, rewiredNet, rewired}
-use Rattle.replacement.proofs.Pieces.{Holds, pieces-length, pieces-hold}
+use Rattle.replacement.proofs.NetPieces.{GateOver, pieces-length, pieces-hold}
 
 -- ---- by kind
 
@@ -61,19 +61,19 @@ module _ (net : Net) (root : ℕ) (p : Proposal) where
   rewired-free = refl
 
   module _ (v : ℕ) (i : IsGate net v) where
-    words : (a b : ℕ) → rewiredGate net root p v ≡ largerFirst a b → Holds (rewiredNet net root p) v a b
+    words : (a b : ℕ) → rewiredGate net root p v ≡ largerFirst a b → GateOver (rewiredNet net root p) v a b
     unfolding rewiredNet
     words a b e = pieces-hold (free net) (rewiredGate net root p) two (size net) v (i .above) (i .within) a b e
 
-    pub other-gate : ¬ (v ≡ root) → Holds (rewiredNet net root p) v (redirected root p (first net v)) (redirected root p (second net v))
+    pub other-gate : ¬ (v ≡ root) → GateOver (rewiredNet net root p) v (redirected root p (first net v)) (redirected root p (second net v))
     unfolding rewiredGate
     other-gate n = words _ _ (rw (ne-eqb v root n))
 
-    pub literal-root : v ≡ root → p .kind ≡ 0 → Holds (rewiredNet net root p) v (first net root) (second net root)
+    pub literal-root : v ≡ root → p .kind ≡ 0 → GateOver (rewiredNet net root p) v (first net root) (second net root)
     unfolding rewiredGate rootGates
     literal-root e k = words _ _ (rw (eq-eqb v root e, k))
 
-    pub and-root : v ≡ root → p .kind ≡ 1 → Holds (rewiredNet net root p) v (p .first .0) (p .second .0)
+    pub and-root : v ≡ root → p .kind ≡ 1 → GateOver (rewiredNet net root p) v (p .first .0) (p .second .0)
     unfolding rewiredGate rootGates
     and-root e k = words _ _ (rw (eq-eqb v root e, k))
 
@@ -102,7 +102,7 @@ module _ (g : Graph) (ok : Lawful g) (root : ℕ) (gate : IsGate (g .net) root) 
   abbrev InOrder : ℕ → Type 0
   InOrder v = (second (rewiredNet (g .net) root p) v ≤ first (rewiredNet (g .net) root p) v) × (first (rewiredNet (g .net) root p) v < 2 * v)
 
-  held-in-order : (v a b : ℕ) (i : IsGate (g .net) v) → a < 2 * v → b < 2 * v → Holds (rewiredNet (g .net) root p) v a b → InOrder v
+  held-in-order : (v a b : ℕ) (i : IsGate (g .net) v) → a < 2 * v → b < 2 * v → GateOver (rewiredNet (g .net) root p) v a b → InOrder v
   held-in-order v a b i l m h = (omega (arith, h .0, h .1), omega (arith, h .0))
 
   root-in-order : Wires root p → (v : ℕ) → IsGate (g .net) v → v ≡ root → InOrder v

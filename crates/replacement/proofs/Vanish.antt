@@ -18,7 +18,7 @@ use Rattle.graph.proofs.Use.{down-keeps, down-closed, marked-reached, reached-m
 use Rattle.replacement.specs.declared.types.Proposal.{Proposal}
 use Rattle.replacement.specs.Proposal.{literal}
 use Rattle.replacement.specs.Rewire.{rewired}
-use Rattle.replacement.specs.Vanish.{Without, by-output, by-first, by-second, literals, From, newGates, marksWithout, marksBeside, countApart, leaving, heldBack}
+use Rattle.replacement.specs.Vanish.{Without, by-output, by-first, by-second, literals, From, newGates, marksWithout, marksBeside, countApart, vanishing, heldBack}
 use Rattle.replacement.proofs.Rewire.{rewired-size, rewired-free, Wires, to-literal, to-and, rewired-lawful}
 use Rattle.replacement.proofs.Reach.{Named, named-either, by-fanin, by-reach, fanin-lower, without-fanin, without-not-root, from-named, by-from, from-below, named-below, without-rewired, rewired-beside, root-unreached, root-reached, rewired-reached}
 use Rattle.replacement.proofs.Counts.{apart, counted, apart-has, apart-stays, apart-more, but-root, same-count, marks-length, down-only}
@@ -64,8 +64,8 @@ module _ (g : Graph) (ok : Lawful g) (root : ℕ) (gate : IsGate (g .net) root) 
   without-used v (by-second {v = u} i r n) = by-fanin g u _ i (without-used u r) (inr refl)
 
   -- R is what is marked without the root, and what goes with it
-  pub used-gates-split : usedGates g ≡ countMarks (g .net) (marksWithout g root) (size (g .net)) + leaving g root
-  unfolding usedGates leaving
+  pub used-gates-split : usedGates g ≡ countMarks (g .net) (marksWithout g root) (size (g .net)) + vanishing g root
+  unfolding usedGates vanishing
   used-gates-split = apart (g .net) (marks g) (marksWithout g root)
       (λ v i m. reached-marked g ok v (without-used v (without-iff v (let h = i .above in omega arith) .0 m))) (size (g .net)) (le-refl _)
 
@@ -164,7 +164,7 @@ module _ (g : Graph) (ok : Lawful g) (root : ℕ) (gate : IsGate (g .net) root) 
           same-count (rewired g root p .net) (g .net) (marks (rewired g root p)) f (size (rewired g root p .net)) ∙ ap (countMarks (g .net) (marks (rewired g root p))) s
 
       -- what is marked without the root and with the proposal's literals, and the gates that the proposal puts there
-      pub rewired-balance : usedGates (rewired g root p) + leaving g root ≡ usedGates g + (newGates p + heldBack g root p)
+      pub rewired-balance : usedGates (rewired g root p) + vanishing g root ≡ usedGates g + (newGates p + heldBack g root p)
       rewired-balance = omega (
         arith,
         used-gates-split,
@@ -177,10 +177,10 @@ module _ (g : Graph) (ok : Lawful g) (root : ℕ) (gate : IsGate (g .net) root) 
   -- ---- what the two numbers count: the gates at which any test passes that decides just this
 
   module _ (test : ℕ → Bool) where
-    pub leaving-counts : ((v : ℕ) → IsGate (g .net) v → (test v ≡ true) ↔ (Reached g v × (¬ Without g root v)))
-        → leaving g root ≡ length (keep test (gather (λ k. suc (free (g .net) + k) ∷ []) (size (g .net))))
-    unfolding leaving
-    leaving-counts t = counted (g .net) (marks g) (marksWithout g root) test
+    pub vanishing-counts : ((v : ℕ) → IsGate (g .net) v → (test v ≡ true) ↔ (Reached g v × (¬ Without g root v)))
+        → vanishing g root ≡ length (keep test (gather (λ k. suc (free (g .net) + k) ∷ []) (size (g .net))))
+    unfolding vanishing
+    vanishing-counts t = counted (g .net) (marks g) (marksWithout g root) test
         (λ v i. let x = without-iff v (let h = i .above in omega arith) in (
           λ e. let r = t v i .0 e in (reached-marked g ok v (r .0), λ m. r .1 (x .0 m)),
           λ r. t v i .1 (marked-reached g v (r .0), λ m. r .1 (x .1 m)),
@@ -202,9 +202,9 @@ module _ (g : Graph) (ok : Lawful g) (root : ℕ) (gate : IsGate (g .net) root) 
   above-without = by-reach g (λ v. root < v → Without g root v) (λ j h l. by-output j h (λ e. omega arith))
       (λ v u i r ih f l. let d = fanin-lower g ok v u i f in without-fanin g root v u i (ih (omega arith)) (λ e. omega arith) f)
 
-  pub leaving-below : leaving g root ≡ countApart (g .net) (marks g) (marksWithout g root) (root - free (g .net))
-  unfolding leaving
-  leaving-below = let a = gate .above in let b = gate .within in
+  pub vanishing-below : vanishing g root ≡ countApart (g .net) (marks g) (marksWithout g root) (root - free (g .net))
+  unfolding vanishing
+  vanishing-below = let a = gate .above in let b = gate .within in
       apart-stays (g .net) (marks g) (marksWithout g root) (root - free (g .net))
       (λ v i l m. without-iff v (omega arith) .1 (above-without v (marked-reached g v m) (omega arith))) (size (g .net)) (omega arith) (le-refl _)
 
@@ -229,8 +229,8 @@ module _ (g : Graph) (ok : Lawful g) (root : ℕ) (gate : IsGate (g .net) root) 
             (λ v u i r ih k z. by-fanin _ v u i (ih (let h = i .above in omega arith)) k)
 
   -- a root in use is among the gates that go
-  pub root-leaves : Reached g root → 1 ≤ leaving g root
-  unfolding leaving
-  root-leaves used = apart-has (g .net) (marks g) (marksWithout g root) root gate (reached-marked g ok root used)
+  pub root-vanishes : Reached g root → 1 ≤ vanishing g root
+  unfolding vanishing
+  root-vanishes used = apart-has (g .net) (marks g) (marksWithout g root) root gate (reached-marked g ok root used)
       (not-marked (marksWithout g root) root (λ m. without-not-root g root root (without-iff root (let h = gate .above in omega arith) .0 m) refl))
       (size (g .net)) (le-refl _) (gate .within)

@@ -58,9 +58,9 @@ countApart net ms ns (suc k) =
     countApart net ms ns k + cond (getD ns (suc (free net + k)) false) 0 (cond (getD ms (suc (free net + k)) false) 1 0)
 
 -- how many gates in use go with the root, itself included
-unfoldable pub leaving : Graph → ℕ → ℕ
+unfoldable pub vanishing : Graph → ℕ → ℕ
 unfolding countApart marks marksWithout
-leaving g root = countApart (g .net) (marks g) (marksWithout g root) (size (g .net))
+vanishing g root = countApart (g .net) (marks g) (marksWithout g root) (size (g .net))
 
 -- how many of the gates that would go the proposal's literals reach
 unfoldable pub heldBack : Graph → ℕ → Proposal → ℕ

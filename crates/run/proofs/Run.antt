@@ -16,7 +16,7 @@ use Rattle.window.specs.LeafRule.{picked}
 use Rattle.window.proofs.Local.{covered-iff}
 use Rattle.window.proofs.LeafRule.{picked-well-set, picked-cuts}
 use Rattle.replacement.specs.Rewire.{finished}
-use Rattle.replacement.proofs.Finished.{finished-free, finished-all-reached, finished-well-formed, Fits, finished-keeps-outputs}
+use Rattle.replacement.proofs.Finished.{finished-free, finished-all-reached, finished-well-formed, Replaces, finished-keeps-outputs}
 use Rattle.replacement.proofs.Gain.{falls-by-gain}
 use Rattle.listing.specs.Listing.{proposalOf}
 use Rattle.run.specs.Run.{step, End, stepsFrom, run, NoneAt, Step, Steps, ends, goes-on}
@@ -33,7 +33,7 @@ module _ (g h : Graph) (ready : Ready g) (s : Step g h) where
   lawful : Lawful g
   lawful = ready .well-formed .lawful
 
-  fits : Fits g (s .root) (picked (g .net) (s .root)) (proposalOf (s .best))
+  fits : Replaces g (s .root) (picked (g .net) (s .root)) (proposalOf (s .best))
   fits = record {
     lawful = lawful;
     gate = s .is-gate;

@@ -11,8 +11,8 @@ use Rattle.graph.proofs.Graph.{larger-first}
 use Rattle.graph.proofs.Gather.{length-gather, getD-gather}
 
 -- the first and the second word of a gate are the larger and the smaller of two literals
-abbrev pub Holds : Net → ℕ → ℕ → ℕ → Type 0
-Holds net v a b = (first net v ≡ max a b) × (second net v ≡ min a b)
+abbrev pub GateOver : Net → ℕ → ℕ → ℕ → Type 0
+GateOver net v a b = (first net v ≡ max a b) × (second net v ≡ min a b)
 
 -- n gates after i inputs, where the piece of gate v is f v
 abbrev pub ofPieces : ℕ → (ℕ → List ℕ) → ℕ → Net
@@ -39,7 +39,7 @@ module _ (i : ℕ) (f : ℕ → List ℕ) (two : (v : ℕ) → length (f v) ≡ 
     unfolding second
     pieces-second = ap (λ (j : ℕ). getD (ofPieces i f n .gates) j 0) (omega arith) ∙ word-at 1 (omega arith)
 
-    pub pieces-hold : (a b : ℕ) → f v ≡ largerFirst a b → Holds (ofPieces i f n) v a b
+    pub pieces-hold : (a b : ℕ) → f v ≡ largerFirst a b → GateOver (ofPieces i f n) v a b
     pieces-hold a b e =
         let h = larger-first a b in
         (pieces-first ∙ ap (λ (xs : List ℕ). getD xs 0 0) e ∙ h .0, pieces-second ∙ ap (λ (xs : List ℕ). getD xs 1 0) e ∙ h .1)
