@@ -1,7 +1,7 @@
 -- Pieces joined: where each piece stands, and the whole where all pieces are equally long.
 -- Assumes nothing.
 use mathlib.Core.Path.{_≡_, refl, sym, ap, ap₂, _∙_, subst}
-use mathlib.Core.List.{List, _++_}
+use mathlib.Core.List.{List, _++_, append-assoc, append-nil}
 use mathlib.Core.Logic.{⊎-elim}
 use Prim.Native.Nat.{ℕ, zero, suc, _+_, _-_, _*_, _≤_, _<_}
 use native.Mathlib.Nat.{le-refl}
@@ -16,6 +16,12 @@ module _ {A : Type 0} where
   unfolding gather
   gather-same f g zero h = refl
   gather-same f g (suc n) h = ap₂ (λ (x y : List A). x ++ y) (gather-same f g n (λ k l. h k (omega arith))) (h n (le-refl (suc n)))
+
+  -- the first piece, and then the others
+  pub gather-front : (f : ℕ → List A) (n : ℕ) → gather f (suc n) ≡ f 0 ++ gather (λ k. f (suc k)) n
+  unfolding gather
+  gather-front f zero = sym (append-nil (f 0))
+  gather-front f (suc n) = rw (gather-front f n) (append-assoc (f 0) (gather (λ k. f (suc k)) n) (f (suc n)))
 
   module _ (f : ℕ → List A) where
     pub gather-more : (k n : ℕ) → k ≤ n → length (gather f k) ≤ length (gather f n)

@@ -9,28 +9,19 @@ use lib.ListN.{length, getD, length-append}
 use Rattle.graph.specs.Lists.{gather}
 use Rattle.graph.specs.Graph.{netOf, graphOf}
 use Rattle.text.specs.Number.{decimal, mostNumber}
-use Rattle.text.specs.Line.{space, lineFeed, line, lines}
+use Rattle.text.specs.Line.{separator, line, lines}
 use Rattle.text.specs.States.{aag, inputNumbers, outputNumbers, textOf}
 use Rattle.text.proofs.Number.{decimal-one, decimal-short}
-use Rattle.writer.proofs.Writing.{
-  numbered,
-  line-one,
-  length-three,
-  first-line-length,
-  inputLine,
-  input-lines,
-  outputLine,
-  output-lines,
-  gateLineOf,
-  gate-lines,
-  text-size,
-}
+use Rattle.writer.proofs.Writing.{inputLine, input-lines, outputLine, output-lines, gateLineOf, gate-lines, text-size}
 
-numbered-size : (x byte : ℕ) → length (numbered x byte) ≡ length (decimal x) + 1
-numbered-size x byte = length-append (decimal x) (byte ∷ [])
+-- the first number, the byte after it, and the line of the others
+line-size : (x : ℕ) (xs : List ℕ) → length (line (x ∷ xs)) ≡ length (decimal x) + 1 + length (line xs)
+unfolding line
+line-size x xs = length-append (decimal x) (separator (length xs) ∷ line xs) ∙ omega arith
 
-line-size : (x : ℕ) → length (line (x ∷ [])) ≡ length (decimal x) + 1
-line-size x = ap length (line-one x) ∙ numbered-size x lineFeed
+line-size-none : length (line []) ≡ 0
+unfolding line
+line-size-none = refl
 
 -- ---- lines of one number, counted one after another
 
@@ -48,10 +39,12 @@ module _ {f : ℕ → List ℕ} {n k total : ℕ} (c : Counts f n k total) where
   pub counts-all : n ≤ k → total ≡ length (gather f n)
   counts-all h = let e : k ≡ n = omega arith in rw e at (c .total-is)
 
-  pub count-then : k < n → (x : ℕ) → f k ≡ line (x ∷ []) → x ≤ mostNumber → {size : ℕ} → size ≡ length (decimal x) → Counts f n (k + 1) (total + (size + 1))
+  pub count-then : k < n → (x : ℕ) → f k ≡ line (x ∷ []) → x ≤ mostNumber → {size : ℕ}
+      → size ≡ length (decimal x) → Counts f n (k + 1) (total + (size + 1))
   unfolding gather
   count-then h x e s q =
-      let more = ap length e ∙ line-size x in
+      let more = ap length e ∙ line-size x [] in
+      let none = line-size-none in
       let short = decimal-short 9 x (omega arith) in
       record {
         within = omega arith;
@@ -65,12 +58,13 @@ first-line-size : (m i o a : ℕ) → length (aag ++ line (m ∷ i ∷ 0 ∷ o �
     ≡ 4 + length (decimal m) + length (decimal i) + 1 + length (decimal o) + length (decimal a) + 5
 first-line-size m i o a = omega (
   arith,
-  first-line-length m i 0 o a,
-  numbered-size m space,
-  numbered-size i space,
-  numbered-size 0 space,
-  numbered-size o space,
-  numbered-size a lineFeed,
+  length-append aag (line (m ∷ i ∷ 0 ∷ o ∷ a ∷ [])),
+  line-size m (i ∷ 0 ∷ o ∷ a ∷ []),
+  line-size i (0 ∷ o ∷ a ∷ []),
+  line-size 0 (o ∷ a ∷ []),
+  line-size o (a ∷ []),
+  line-size a [],
+  line-size-none,
   ap length (decimal-one 0 (omega arith)),
 )
 
@@ -80,19 +74,24 @@ gather-size f k = length-append (gather f k) (f k)
 
 module _ (i : ℕ) (gs : List ℕ) where
   -- a gate's numbers are the literal of its variable and two words
-  gate-size : (k : ℕ) → length (gateLineOf i gs k) ≡ length (inputLine (i + k)) + length (outputLine gs (2 * k)) + length (outputLine gs (suc (2 * k)))
-  gate-size k = rw (add-one (2 * k)) (omega (
-    arith,
-    length-three (2 * suc (i + k)) (getD gs (2 * k) 0) (getD gs (suc (2 * k)) 0),
-    numbered-size (2 * suc (i + k)) space,
-    numbered-size (getD gs (2 * k) 0) space,
-    numbered-size (getD gs (suc (2 * k)) 0) lineFeed,
-    line-size (2 * suc (i + k)),
-    line-size (getD gs (2 * k) 0),
-    line-size (getD gs (suc (2 * k)) 0),
-  ))
+  gate-size : (k : ℕ) → length (gateLineOf i gs k)
+      ≡ length (inputLine (i + k)) + length (outputLine gs (2 * k)) + length (outputLine gs (suc (2 * k)))
+  gate-size k =
+      let left = 2 * suc (i + k) in
+      let one = getD gs (2 * k) 0 in
+      let other = getD gs (suc (2 * k)) 0 in
+      rw (add-one (2 * k)) (omega (
+        arith,
+        line-size left (one ∷ other ∷ []),
+        line-size one (other ∷ []),
+        line-size other [],
+        line-size left [],
+        line-size one [],
+        line-size-none,
+      ))
 
-  gates-size : (k : ℕ) → length (gather inputLine i) + length (gather (gateLineOf i gs) k) ≡ length (gather inputLine (i + k)) + length (gather (outputLine gs) (2 * k))
+  gates-size : (k : ℕ) → length (gather inputLine i) + length (gather (gateLineOf i gs) k)
+      ≡ length (gather inputLine (i + k)) + length (gather (outputLine gs) (2 * k))
   unfolding gather
   gates-size zero = let e : i + 0 ≡ i = omega arith in rw e
   gates-size (suc k) =

@@ -1,55 +1,46 @@
--- The text that the writer lays: its lines number by number, each with one byte after it; its parts; and what writing answers.
+-- The text that the writer lays: its lines number by number, each with one byte after it; its parts; and what a verdict means.
 -- Assumes nothing.
 use mathlib.Core.Path.{_≡_, refl, sym, ap, _∙_}
-use mathlib.Core.Bool.{Bool, true, false, cond, not}
+use mathlib.Core.Bool.{true, false}
 use mathlib.Core.List.{List, [], _∷_, _++_, append-assoc, append-nil}
-use mathlib.Core.Option.{none, some}
-use Prim.Native.Nat.{ℕ, suc, _+_, _*_, _/_, _≤_, _<_}
+use mathlib.Core.Option.{none}
+use Prim.Native.Nat.{ℕ, zero, suc, _+_, _-_, _*_, _/_, _≤_}
+use native.Mathlib.Nat.{suc-sub-suc}
 use native.Mathlib.Omega.{arith}
-use borrow.Author.Tests.{lt-ltb, le-ltb}
+use borrow.Author.Tests.{ltb-false, not-false}
 use lib.ListN.{length, getD, length-append}
-use Rattle.graph.specs.declared.refusal.Refusal.the-variants.{BadGraph, NoRoom}
+use Rattle.graph.specs.declared.refusal.Refusal.{Refusal}
+use Rattle.graph.specs.declared.refusal.Refusal.the-variants.{NoRoom}
+use Rattle.graph.specs.declared.verdict.Verdict.{Verdict}
 use Rattle.graph.specs.Lists.{gather, joined}
 use Rattle.graph.specs.Graph.{Graph, netOf, graphOf, wellFormed}
-use Rattle.graph.specs.Lent.{short, _leaving_}
-use Rattle.graph.specs.Refuse.{firstRefusal}
+use Rattle.graph.specs.Lent.{short, laid, _leaving_}
+use Rattle.graph.specs.Refuse.{firstRefusal, verdictIs}
 use Rattle.graph.proofs.Graph.{first-at, second-at}
-use Rattle.graph.proofs.Gather.{gather-same}
+use Rattle.graph.proofs.Gather.{gather-same, gather-front}
 use Rattle.graph.proofs.Gathered.{flatMap-joined, flatMap-singles}
+use Rattle.graph.proofs.Laying.{laid-front}
+use Rattle.graph.proofs.Refuse.{none-silent}
 use Rattle.text.specs.declared.WrittenText.{WrittenText}
 use Rattle.text.specs.Number.{decimal}
-use Rattle.text.specs.Line.{space, lineFeed, separator, line, lines}
-use Rattle.graph.specs.Lent.{laid}
+use Rattle.text.specs.Line.{separator, line, lines}
 use Rattle.text.specs.Calls.{writeRefusals, writeEffect}
-use Rattle.text.specs.States.{aag, inputNumbers, outputNumbers, gateLine, gateNumbers, counts, sectionsOf, textOf}
+use Rattle.text.specs.States.{aag, inputNumbers, outputNumbers, gateLine, gateNumbers, sectionsOf, textOf}
+use Rattle.text.specs.Refusals.{writeRank}
 use Rattle.text.proofs.States.{text-of-is}
-use Rattle.graph.proofs.Laying.{laid-front}
 
--- a number and the byte after it
-abbrev pub numbered : ℕ → ℕ → List ℕ
-numbered x byte = decimal x ++ (byte ∷ [])
+-- ---- a line is its numbers one after another
 
-pub line-one : (x : ℕ) → line (x ∷ []) ≡ numbered x lineFeed
-unfolding line separator
-line-one x = refl
+-- number k of a line, and the byte after it
+abbrev pub numberAt : List ℕ → ℕ → List ℕ
+numberAt ns k = decimal (getD ns k 0) ++ (separator (length ns - suc k) ∷ [])
 
-line-more : (x y : ℕ) (ys : List ℕ) → line (x ∷ y ∷ ys) ≡ numbered x space ++ line (y ∷ ys)
-unfolding line separator
-line-more x y ys = sym (append-assoc (decimal x) (space ∷ []) (line (y ∷ ys)))
-
-pub line-three : (x y z : ℕ) → line (x ∷ y ∷ z ∷ []) ≡ numbered x space ++ numbered y space ++ numbered z lineFeed
-line-three x y z = simp (line-more, line-one, append-assoc)
-
-pub length-three : (x y z : ℕ) → length (line (x ∷ y ∷ z ∷ [])) ≡ length (numbered x space) + length (numbered y space) + length (numbered z lineFeed)
-length-three x y z = simp (line-three, length-append)
-
-pub first-line : (m i l o a : ℕ) → aag ++ line (m ∷ i ∷ l ∷ o ∷ a ∷ [])
-    ≡ aag ++ numbered m space ++ numbered i space ++ numbered l space ++ numbered o space ++ numbered a lineFeed
-first-line m i l o a = simp (line-more, line-one, append-assoc)
-
-pub first-line-length : (m i l o a : ℕ) → length (aag ++ line (m ∷ i ∷ l ∷ o ∷ a ∷ []))
-    ≡ 4 + length (numbered m space) + length (numbered i space) + length (numbered l space) + length (numbered o space) + length (numbered a lineFeed)
-first-line-length m i l o a = ap length (first-line m i l o a) ∙ simp length-append (omega arith)
+pub line-numbers : (ns : List ℕ) → line ns ≡ gather (numberAt ns) (length ns)
+unfolding line gather
+line-numbers [] = refl
+line-numbers (x ∷ xs) =
+    let e : suc (length xs) - 1 ≡ length xs = omega arith in
+    rw (gather-front (numberAt (x ∷ xs)) (length xs), line-numbers xs) (simp (suc-sub-suc, e, append-assoc))
 
 -- ---- the lines after the first
 
@@ -78,8 +69,12 @@ gate-lines i gs =
 
 -- ---- the whole text
 
+-- M I L O A
+abbrev pub countsOf : ℕ → List ℕ → List ℕ → List ℕ
+countsOf i gs os = (i + length gs / 2) ∷ i ∷ 0 ∷ length os ∷ length gs / 2 ∷ []
+
 abbrev pub firstLine : ℕ → List ℕ → List ℕ → List ℕ
-firstLine i gs os = aag ++ line ((i + length gs / 2) ∷ i ∷ 0 ∷ length os ∷ length gs / 2 ∷ [])
+firstLine i gs os = aag ++ line (countsOf i gs os)
 
 abbrev pub inputPart : ℕ → List ℕ
 inputPart i = lines (inputNumbers (netOf i []))
@@ -95,13 +90,14 @@ module _ (i : ℕ) (gs os : List ℕ) where
   unfolding sectionsOf joined inputNumbers
   text-parts =
       text-of-is (graphOf i gs os)
-      ∙ ap (λ (t : List ℕ). aag ++ (line (counts (graphOf i gs os)) ++ (t ++ []))) (flatMap-joined line (sectionsOf (graphOf i gs os) (λ k. false)))
-      ∙ regroup aag (line (counts (graphOf i gs os))) (inputPart i) (outputPart os) (gatePart i gs)
+      ∙ ap (λ (t : List ℕ). aag ++ (line (countsOf i gs os) ++ (t ++ []))) (flatMap-joined line (sectionsOf (graphOf i gs os) (λ k. false)))
+      ∙ regroup aag (line (countsOf i gs os)) (inputPart i) (outputPart os) (gatePart i gs)
     where
       regroup : (a b c d e : List ℕ) → a ++ (b ++ ((c ++ (d ++ (e ++ []))) ++ [])) ≡ a ++ b ++ c ++ d ++ e
       regroup a b c d e = simp (append-assoc, append-nil)
 
-  pub text-size : length (textOf (graphOf i gs os)) ≡ length (firstLine i gs os) + length (inputPart i) + length (outputPart os) + length (gatePart i gs)
+  pub text-size : length (textOf (graphOf i gs os))
+      ≡ length (firstLine i gs os) + length (inputPart i) + length (outputPart os) + length (gatePart i gs)
   text-size = omega (
     arith,
     ap length text-parts,
@@ -110,23 +106,25 @@ module _ (i : ℕ) (gs os : List ℕ) where
     length-append (firstLine i gs os) (inputPart i),
   )
 
--- ---- what writing answers
+-- ---- what the verdict on a call says of its effect
 
-module _ (g : Graph) (lent : List ℕ) where
-  first-refusal : (ok few : Bool) → wellFormed g ≡ ok → short (length (textOf g)) lent ≡ few
-      → firstRefusal (writeRefusals g lent) ≡ cond (not ok) (some BadGraph) (cond few (some NoRoom) none)
-  unfolding writeRefusals firstRefusal
-  first-refusal ok few h s = rw (h, s)
+module _ (g : Graph) (lent : List ℕ) {v : Verdict} (judged : verdictIs v ≡ firstRefusal (writeRefusals g lent)) where
+  pub writes-nothing : {r : Refusal} → v ≡ Verdict.Refused r → WrittenText.Refused r leaving lent ≡ writeEffect g lent
+  unfolding writeEffect verdictIs
+  writes-nothing e = rw (rw e at (sym judged), writeEffect)
 
-  pub writes-bad-graph : wellFormed g ≡ false → WrittenText.Refused BadGraph leaving lent ≡ writeEffect g lent
-  unfolding writeEffect
-  writes-bad-graph h = rw (first-refusal false _ h refl, writeEffect)
+  module _ (e : v ≡ Verdict.Fine) where
+    none-refused : firstRefusal (writeRefusals g lent) ≡ none
+    unfolding verdictIs
+    none-refused = rw e at (sym judged)
 
-  module _ (h : wellFormed g ≡ true) where
-    pub writes-no-room : length lent < length (textOf g) → WrittenText.Refused NoRoom leaving lent ≡ writeEffect g lent
-    unfolding writeEffect short
-    writes-no-room l = rw (first-refusal true true h (lt-ltb (length lent) (length (textOf g)) l), writeEffect)
+    -- no row of the refusals holds, up to the last
+    pub fine-means : (wellFormed g ≡ true) × (length (textOf g) ≤ length lent)
+    unfolding writeRefusals short
+    fine-means =
+        let silent = none-silent writeRank NoRoom (writeRefusals g lent) none-refused in
+        (not-false (wellFormed g) (silent .0 refl), ltb-false (length lent) (length (textOf g)) (silent .1 .0 refl))
 
-    pub writes-text : length (textOf g) ≤ length lent → WrittenText.Bytes (length (textOf g)) leaving laid 0 (textOf g) lent ≡ writeEffect g lent
-    unfolding writeEffect short
-    writes-text l = rw (first-refusal true false h (le-ltb (length lent) (length (textOf g)) l), laid-front (textOf g) lent, writeEffect)
+    pub writes-text : WrittenText.Bytes (length (textOf g)) leaving laid 0 (textOf g) lent ≡ writeEffect g lent
+    unfolding writeEffect
+    writes-text = rw (none-refused, laid-front (textOf g) lent, writeEffect)

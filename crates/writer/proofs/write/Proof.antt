@@ -1,73 +1,79 @@
--- `text::to_text::write` meets its contract: its two tests are the refusals in their order, and past them the text is laid from the first byte on.
+-- `writer::write` meets its contract: a verdict that refuses leaves the bytes, and past it the text is laid from the first byte on.
 -- Assumes nothing.
-use mathlib.Core.Path.{_≡_, sym, _∙_}
+use mathlib.Core.Path.{_≡_}
 use mathlib.Core.Bool.{true}
-use Prim.Native.Nat.{_≤_}
+use mathlib.Core.List.{List}
+use Prim.Native.Nat.{ℕ, _≤_}
 use native.Mathlib.Omega.{arith}
 use borrow.Author.Needs.{needs}
-use borrow.Author.Tests.{not-true, not-false}
 use lib.ListN.{length}
 use Rattle.graph.specs.Graph.{Graph, graphOf, wellFormed}
 use Rattle.graph.proofs.Graph.{well-formed}
 use Rattle.text.specs.States.{textOf}
-use Rattle.writer.proofs.Writing.{writes-bad-graph, writes-no-room, writes-text}
+use Rattle.writer.proofs.Writing.{writes-nothing, fine-means, writes-text}
 use Rattle.writer.proofs.write.Statement.{statement}
 use Rattle.writer.proofs.write.Tie as tie
 
-abbrev graph : tie.Start → Graph
-graph c = graphOf (c .args .inputs) (c .args .gates .now) (c .args .outputs .now)
+module _ (v : tie.After-write-verdict) where
+  abbrev start : tie.Start
+  start = v .before .before .before .before .before
 
--- past the first test the graph is well formed
-passed : (c : tie.Else1) → wellFormed (graph (c .before .before .before .before .before)) ≡ true
-passed c = sym (c .before .well-formed .ensures) ∙ not-false (c .before .well-formed .result) (c .if1 .left)
+  abbrev graph : Graph
+  graph = graphOf (start .args .inputs) (start .args .gates .now) (start .args .outputs .now)
 
--- past the second there is room
-fits : (c : tie.Else2) → length (textOf (graph (c .before .before .before .before .before .before .before)))
-    ≤ length (c .before .before .before .before .before .before .before .args .bytes .now)
-fits c = omega (arith, c .before .text-length .ensures, c .if2 .left)
+  abbrev bytes : List ℕ
+  bytes = start .args .bytes .now
 
-well-formed-requires : tie.Need-well-formed-requires
-well-formed-requires c κs = search needs
+-- past the refusals the graph is well formed, and there is room for its text
+passed : (c : tie.After-enum-told)
+    → let v = c .before .before in (wellFormed (graph v) ≡ true) × (length (textOf (graph v)) ≤ length (bytes v))
+passed c = let v = c .before .before in fine-means (graph v) (bytes v) (v .write-verdict .ensures) (c .enum-told .given .1)
 
-returns : tie.Need-returns
-returns c =
-    let start = c .before .before .before .before .before in
-    writes-bad-graph (graph start) (start .args .bytes .now) (sym (c .before .well-formed .ensures) ∙ not-true (c .before .well-formed .result) (c .if1 .taken))
+write-verdict-requires : tie.Need-write-verdict-requires
+write-verdict-requires c κs = search needs
 
-cast-input-count : tie.Need-cast-input-count
-cast-input-count c = omega (arith, well-formed (graph (c .before .before .before .before .before)) (passed c))
+enum-known-refusal : tie.Need-enum-known-refusal
+enum-known-refusal c = search needs
 
-text-length-requires : tie.Need-text-length-requires
-text-length-requires c κs = passed c
+enum-told : tie.Need-enum-told
+enum-told c = search needs
 
-returns-2 : tie.Need-returns-2
-returns-2 c =
-    let start = c .before .before .before .before .before .before .before in
-    writes-no-room (graph start) (start .args .bytes .now) (passed (c .before .before)) (omega (arith, c .before .text-length .ensures, c .if2 .taken))
+cast-put-text : tie.Need-cast-put-text
+cast-put-text c = omega (arith, well-formed (graph (c .before .before)) (passed c .0))
 
 put-text-requires : tie.Need-put-text-requires
-put-text-requires c κs = (passed (c .before .before .before), fits (c .before))
+put-text-requires c κs = passed (c .before)
 
 same-length : tie.Need-same-length
 same-length c = search needs
 
-returns-3 : tie.Need-returns-3
-returns-3 c =
+returns : tie.Need-returns
+returns c =
+    let refused = c .before in
+    let v = refused .before .before in
+    writes-nothing (graph v) (bytes v) (v .write-verdict .ensures) (refused .refusal .given .1)
+
+same-length-2 : tie.Need-same-length-2
+same-length-2 c = search needs
+
+returns-2 : tie.Need-returns-2
+returns-2 c =
     let put = c .before .before in
-    let room = put .before .before in
-    let start = room .before .before .before .before .before .before .before in
-    rw (room .before .text-length .ensures, put .put-text .ensures)
-    (writes-text (graph start) (start .args .bytes .now) (passed (room .before .before)) (fits room))
+    let fine = put .before .before in
+    let v = fine .before .before in
+    rw (put .put-text .ensures .0, put .put-text .ensures .1)
+    (writes-text (graph v) (bytes v) (v .write-verdict .ensures) (fine .enum-told .given .1))
 
 pub write-spec : {M : Type 1} → statement M
 write-spec =
     tie.close
     (tie.spec
-    well-formed-requires
-    returns
-    cast-input-count
-    text-length-requires
-    returns-2
+    write-verdict-requires
+    enum-known-refusal
+    enum-told
+    cast-put-text
     put-text-requires
     same-length
-    returns-3)
+    returns
+    same-length-2
+    returns-2)

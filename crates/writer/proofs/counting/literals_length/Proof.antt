@@ -1,4 +1,5 @@
--- `text::counting::literals_length` meets its contract: after k turns the first k lines are counted. The measure is what is left of the literals.
+-- `writer::counting::literals_length` meets its contract: after k turns the first k lines are counted.
+-- The measure is what is left of the literals.
 -- Assumes nothing.
 use mathlib.Core.Path.{refl}
 use Prim.Native.Nat.{_-_}
@@ -32,7 +33,8 @@ loop-again c =
     let turn = c .before .before in
     let l = turn .before .loop in
     let x = getD (turn .before .before .before .args .literals .now) (l .k) 0 in
-    count-then (l .inv) (turn .loop-test .taken) x refl (omega (arith, c .before .shared-slice-known2 .given (l .k))) (c .decimal-length .ensures)
+    count-then (l .inv) (turn .loop-test .taken) x refl
+    (omega (arith, c .before .shared-slice-known2 .given (l .k))) (c .decimal-length .ensures)
 
 add-total : tie.Need-add-total Inv-loop μ-loop
 add-total c = omega (arith, loop-again c)

@@ -1,4 +1,4 @@
--- `text::counting::text_length` meets its contract: a text's bytes are those of its numbers, one after each, and `aag`.
+-- `writer::counting::text_length` meets its contract: a text's bytes are those of its numbers, one after each, and `aag`.
 -- Assumes nothing.
 use mathlib.Core.Path.{_≡_}
 use Prim.Native.Nat.{_≤_}

@@ -1,4 +1,5 @@
--- `text::counting::variables_length` meets its contract: after k turns the first k lines are counted. The measure is what is left of the variables.
+-- `writer::counting::variables_length` meets its contract: after k turns the first k lines are counted.
+-- The measure is what is left of the variables.
 -- Assumes nothing.
 use mathlib.Core.Path.{_≡_}
 use mathlib.Core.List.{[]}
@@ -35,7 +36,8 @@ loop-again c =
     let plain = c .before in
     let turn = plain .before in
     let e : 2 * suc (turn .before .loop .k) ≡ plain .plain .result .0 = omega arith in
-    count-then (turn .before .loop .inv) (turn .loop-test .taken) (plain .plain .result .0) (rw e) (omega arith) (c .decimal-length .ensures)
+    count-then (turn .before .loop .inv) (turn .loop-test .taken) (plain .plain .result .0)
+    (rw e) (omega arith) (c .decimal-length .ensures)
 
 add-total : tie.Need-add-total Inv-loop μ-loop
 add-total c = omega (arith, loop-again c)

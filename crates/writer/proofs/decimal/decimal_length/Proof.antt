@@ -1,4 +1,4 @@
--- `text::decimal::decimal_length` meets its contract: powers of ten on both sides of a number say how many digits it has.
+-- `writer::decimal::decimal_length` meets its contract: powers of ten on both sides of a number say how many digits it has.
 -- Assumes nothing.
 use mathlib.Core.Path.{sym, ap}
 use native.Mathlib.Omega.{arith}

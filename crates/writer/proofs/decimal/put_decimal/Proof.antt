@@ -1,4 +1,5 @@
--- `text::decimal::put_decimal` meets its contract: laying the digits that are left over those stored lays the whole decimal. The measure is what is left.
+-- `writer::decimal::put_decimal` meets its contract: laying the digits that are left over those stored lays the whole decimal.
+-- The measure is what is left.
 -- Assumes nothing.
 use mathlib.Core.Path.{_≡_, refl, ap, _∙_}
 use mathlib.Core.List.{[], _∷_}
@@ -49,11 +50,13 @@ loop-again c =
     let a = c .before .before .before .before .args in
     let l = c .before .loop in
     let last = decimal-longer (l .left) (c .loop-test .taken) in
-    let e : l .place - 1 ≡ a .at + length (decimal (l .left / 10)) = omega arith in (
+    let rest = decimal (l .left / 10) in
+    let e : l .place - 1 ≡ a .at + length rest = omega arith in
+    let whole = decimal-more (l .left) (c .loop-test .taken) in (
       e,
       simp length-set (omega arith),
       simp length-set (l .inv .2),
-      rw (e, laid-last (a .at) (decimal (l .left / 10)) (digit (l .left % 10)) (l .bytes) (omega arith), ← decimal-more (l .left) (c .loop-test .taken)) (l .inv .3),
+      rw (e, laid-last (a .at) rest (digit (l .left % 10)) (l .bytes) (omega arith), ← whole) (l .inv .3),
     )
 
 cast-bytes-2 : tie.Need-cast-bytes-2 Inv-loop μ-loop

@@ -1,6 +1,7 @@
--- `text::to_text::put_gates` meets its contract: after k turns the first k gate lines are laid. The measure is what is left of the gates.
+-- `writer::put::put_gates` meets its contract: after k turns the first k gate lines are laid.
+-- The measure is what is left of the gates.
 -- Assumes nothing.
-use mathlib.Core.Path.{_≡_}
+use mathlib.Core.Path.{_≡_, refl}
 use Prim.Native.Nat.{suc, _+_, _-_, _*_, _/_}
 use native.Mathlib.Omega.{arith}
 use lib.ListN.{length}
@@ -22,7 +23,8 @@ loop-holds : tie.Need-loop-holds Inv-loop μ-loop
 loop-holds c =
     let a = c .before .before .args in
     let gs = a .gates .now in
-    pieces-none (gateLineOf (a .inputs) gs) (length gs / 2) (a .at) (a .bytes .now) (rw (gate-lines (a .inputs) gs) at (c .before .before .pre .1))
+    pieces-none (gateLineOf (a .inputs) gs) (length gs / 2) (a .at) (a .bytes .now)
+    (rw (gate-lines (a .inputs) gs) at (c .before .before .pre .1))
 
 cast-place : tie.Need-cast-place Inv-loop μ-loop
 cast-place c = omega arith
@@ -30,33 +32,36 @@ cast-place c = omega arith
 mul-place : tie.Need-mul-place Inv-loop μ-loop
 mul-place c = omega arith
 
-mul-t15 : tie.Need-mul-t15 Inv-loop μ-loop
-mul-t15 c = omega arith
+mul-t16 : tie.Need-mul-t16 Inv-loop μ-loop
+mul-t16 c = omega arith
 
-shared-slice-read-t17 : tie.Need-shared-slice-read-t17 Inv-loop μ-loop
-shared-slice-read-t17 c = omega arith
+shared-slice-read-t18 : tie.Need-shared-slice-read-t18 Inv-loop μ-loop
+shared-slice-read-t18 c = omega arith
 
-add-t15 : tie.Need-add-t15 Inv-loop μ-loop
-add-t15 c = omega arith
+add-t16 : tie.Need-add-t16 Inv-loop μ-loop
+add-t16 c = omega arith
 
-mul-t18 : tie.Need-mul-t18 Inv-loop μ-loop
-mul-t18 c = omega arith
+mul-t19 : tie.Need-mul-t19 Inv-loop μ-loop
+mul-t19 c = omega arith
 
-shared-slice-read-t17-2 : tie.Need-shared-slice-read-t17-2 Inv-loop μ-loop
-shared-slice-read-t17-2 c = omega arith
+shared-slice-read-t18-2 : tie.Need-shared-slice-read-t18-2 Inv-loop μ-loop
+shared-slice-read-t18-2 c = omega arith
 
-add-t17 : tie.Need-add-t17 Inv-loop μ-loop
-add-t17 c = omega arith
+add-t18 : tie.Need-add-t18 Inv-loop μ-loop
+add-t18 c = omega arith
 
-add-t20 : tie.Need-add-t20 Inv-loop μ-loop
-add-t20 c = omega arith
+add-t21 : tie.Need-add-t21 Inv-loop μ-loop
+add-t21 c = omega arith
 
 plain-requires : tie.Need-plain-requires Inv-loop μ-loop
 plain-requires c κs = omega arith
 
-put-gate-requires : tie.Need-put-gate-requires Inv-loop μ-loop
-put-gate-requires c κs =
-    let plain = c .before in
+slice-aggregate-put-line : tie.Need-slice-aggregate-put-line Inv-loop μ-loop
+slice-aggregate-put-line c = refl
+
+put-line-requires : tie.Need-put-line-requires Inv-loop μ-loop
+put-line-requires c κs =
+    let plain = c .before .before in
     let turn = plain .before .before .before in
     let l = turn .before .loop in
     let a = turn .before .before .before .before .args in
@@ -72,12 +77,12 @@ loop-less c = omega arith
 loop-again : tie.Need-loop-again Inv-loop μ-loop
 loop-again c =
     let put = c .before .before in
-    let plain = put .before .before in
+    let plain = put .before .before .before in
     let turn = plain .before .before .before in
     let l = turn .before .loop in
     let a = turn .before .before .before .before .args in
     let e : plain .plain .result .0 ≡ 2 * suc (a .inputs + l .k) = omega arith in
-    piece-then (l .inv) (turn .loop-test .taken) (rw e at (put .put-gate .ensures))
+    piece-then (l .inv) (turn .loop-test .taken) (rw e at (put .put-line .ensures))
 
 same-length : tie.Need-same-length Inv-loop μ-loop
 same-length c = pieces-length (c .before .loop .inv)
@@ -97,15 +102,16 @@ put-gates-spec =
     loop-holds
     cast-place
     mul-place
-    mul-t15
-    shared-slice-read-t17
-    add-t15
-    mul-t18
-    shared-slice-read-t17-2
-    add-t17
-    add-t20
+    mul-t16
+    shared-slice-read-t18
+    add-t16
+    mul-t19
+    shared-slice-read-t18-2
+    add-t18
+    add-t21
     plain-requires
-    put-gate-requires
+    slice-aggregate-put-line
+    put-line-requires
     add-k
     loop-less
     loop-again

@@ -1,6 +1,7 @@
--- `text::to_text::put_inputs` meets its contract: after k turns the first k input lines are laid. The measure is what is left of the inputs.
+-- `writer::put::put_inputs` meets its contract: after k turns the first k input lines are laid.
+-- The measure is what is left of the inputs.
 -- Assumes nothing.
-use mathlib.Core.Path.{_≡_}
+use mathlib.Core.Path.{_≡_, refl}
 use mathlib.Core.List.{[]}
 use Prim.Native.Nat.{suc, _-_, _*_}
 use native.Mathlib.Omega.{arith}
@@ -26,10 +27,14 @@ add-k c = omega arith
 plain-requires : tie.Need-plain-requires Inv-loop μ-loop
 plain-requires c κs = omega arith
 
-put-literal-requires : tie.Need-put-literal-requires Inv-loop μ-loop
-put-literal-requires c κs =
-    let turn = c .before .before in
-    let e : c .plain .result .0 ≡ 2 * suc (turn .before .loop .k) = omega arith in
+slice-aggregate-put-line : tie.Need-slice-aggregate-put-line Inv-loop μ-loop
+slice-aggregate-put-line c = refl
+
+put-line-requires : tie.Need-put-line-requires Inv-loop μ-loop
+put-line-requires c κs =
+    let plain = c .before .before in
+    let turn = plain .before in
+    let e : plain .plain .result .0 ≡ 2 * suc (turn .before .loop .k) = omega arith in
     rw e (piece-room (turn .before .loop .inv) (turn .loop-test .taken))
 
 loop-less : tie.Need-loop-less Inv-loop μ-loop
@@ -38,15 +43,18 @@ loop-less c = omega arith
 loop-again : tie.Need-loop-again Inv-loop μ-loop
 loop-again c =
     let put = c .before .before in
-    let turn = put .before .before .before in
-    let e : put .before .plain .result .0 ≡ 2 * suc (turn .before .loop .k) = omega arith in
-    piece-then (turn .before .loop .inv) (turn .loop-test .taken) (rw e at (put .put-literal .ensures))
+    let plain = put .before .before .before in
+    let turn = plain .before in
+    let e : plain .plain .result .0 ≡ 2 * suc (turn .before .loop .k) = omega arith in
+    piece-then (turn .before .loop .inv) (turn .loop-test .taken) (rw e at (put .put-line .ensures))
 
 same-length : tie.Need-same-length Inv-loop μ-loop
 same-length c = pieces-length (c .before .loop .inv)
 
 returns : tie.Need-returns Inv-loop μ-loop
-returns c = rw (input-lines (c .before .before .before .args .inputs) []) (pieces-all (c .before .loop .inv) (c .loop-test .left))
+returns c =
+    let start = c .before .before .before in
+    rw (input-lines (start .args .inputs) []) (pieces-all (c .before .loop .inv) (c .loop-test .left))
 
 pub put-inputs-spec : {M : Type 1} → statement M
 put-inputs-spec =
@@ -57,7 +65,8 @@ put-inputs-spec =
     loop-holds
     add-k
     plain-requires
-    put-literal-requires
+    slice-aggregate-put-line
+    put-line-requires
     loop-less
     loop-again
     same-length

@@ -1,5 +1,7 @@
--- `text::to_text::put_outputs` meets its contract: after k turns the first k output lines are laid. The measure is what is left of the outputs.
+-- `writer::put::put_outputs` meets its contract: after k turns the first k output lines are laid.
+-- The measure is what is left of the outputs.
 -- Assumes nothing.
+use mathlib.Core.Path.{refl}
 use Prim.Native.Nat.{_-_}
 use native.Mathlib.Omega.{arith}
 use lib.ListN.{length}
@@ -20,14 +22,17 @@ loop-holds c =
     let os = a .outputs .now in
     pieces-none (outputLine os) (length os) (a .at) (a .bytes .now) (rw (output-lines os) at (c .before .before .pre))
 
-mul-t6 : tie.Need-mul-t6 Inv-loop μ-loop
-mul-t6 c = omega arith
+mul-t7 : tie.Need-mul-t7 Inv-loop μ-loop
+mul-t7 c = omega arith
 
-shared-slice-read-t11 : tie.Need-shared-slice-read-t11 Inv-loop μ-loop
-shared-slice-read-t11 c = omega arith
+shared-slice-read-t10 : tie.Need-shared-slice-read-t10 Inv-loop μ-loop
+shared-slice-read-t10 c = omega arith
 
-put-literal-requires : tie.Need-put-literal-requires Inv-loop μ-loop
-put-literal-requires c κs = let turn = c .before .before in piece-room (turn .before .loop .inv) (turn .loop-test .taken)
+slice-aggregate-put-line : tie.Need-slice-aggregate-put-line Inv-loop μ-loop
+slice-aggregate-put-line c = refl
+
+put-line-requires : tie.Need-put-line-requires Inv-loop μ-loop
+put-line-requires c κs = let turn = c .before .before .before in piece-room (turn .before .loop .inv) (turn .loop-test .taken)
 
 add-k : tie.Need-add-k Inv-loop μ-loop
 add-k c = omega arith
@@ -38,14 +43,16 @@ loop-less c = omega arith
 loop-again : tie.Need-loop-again Inv-loop μ-loop
 loop-again c =
     let put = c .before .before in
-    let turn = put .before .before .before in
-    piece-then (turn .before .loop .inv) (turn .loop-test .taken) (put .put-literal .ensures)
+    let turn = put .before .before .before .before in
+    piece-then (turn .before .loop .inv) (turn .loop-test .taken) (put .put-line .ensures)
 
 same-length : tie.Need-same-length Inv-loop μ-loop
 same-length c = pieces-length (c .before .loop .inv)
 
 returns : tie.Need-returns Inv-loop μ-loop
-returns c = rw (output-lines (c .before .before .before .before .args .outputs .now)) (pieces-all (c .before .loop .inv) (c .loop-test .left))
+returns c =
+    let start = c .before .before .before .before in
+    rw (output-lines (start .args .outputs .now)) (pieces-all (c .before .loop .inv) (c .loop-test .left))
 
 pub put-outputs-spec : {M : Type 1} → statement M
 put-outputs-spec =
@@ -54,9 +61,10 @@ put-outputs-spec =
     Inv-loop
     μ-loop
     loop-holds
-    mul-t6
-    shared-slice-read-t11
-    put-literal-requires
+    mul-t7
+    shared-slice-read-t10
+    slice-aggregate-put-line
+    put-line-requires
     add-k
     loop-less
     loop-again
