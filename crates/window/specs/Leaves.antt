@@ -65,5 +65,5 @@ placeFrom j (x ∷ xs) v = cond (eqb x v) (some j) (placeFrom (suc j) xs v)
 
 -- the place of v among the leaves, if it is one
 unfoldable pub leafPlace : Leaves → ℕ → Option ℕ
-unfolding placeFrom
+unfolding placeFrom numbers
 leafPlace w v = placeFrom 0 (leafList w) v
