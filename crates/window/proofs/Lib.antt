@@ -11,5 +11,4 @@ pub mod Expansions
 pub mod Smallest
 pub mod Choice
 pub mod LeafRule
-pub mod Taking
 pub mod Calls

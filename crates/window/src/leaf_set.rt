@@ -5,10 +5,10 @@ ghost use mathlib.Core.Option.{none};
 ghost use Prim.Native.Nat.{_+_, _<_, _≤_};
 ghost use lib.ListN.{drop};
 ghost use Rattle.graph.specs.Lists.{isIn};
-ghost use Rattle.graph.specs.Graph.{netOf, last, mostInputs, IsGate};
+ghost use Rattle.graph.specs.Graph.{netOf, mostInputs, IsGate};
 ghost use Rattle.window.specs.Leaves.{leafLimit, leafList, leavesOf};
-ghost use Rattle.window.specs.LeafRule.{put, insert, remove, withFanins, expand, expansions, smallest};
-ghost use Rattle.window.specs.Growing.{grownOf, grownFrom, Tidy, better, tried, LeavesWithin};
+ghost use Rattle.window.specs.LeafRule.{put, insert, remove, withFanins, expand};
+ghost use Rattle.window.specs.Growing.{grownOf, grownFrom, Tidy};
 use graph::Lit;
 use graph::Var;
 
@@ -35,22 +35,6 @@ impl Grown {
             fits: false,
             leaves: empty,
         }
-    }
-
-    // The smaller of two sets that fit, the second on ties.
-    fn or(self, next: Grown) -> Grown
-        ensures { λ r. ⌜ r ≡ better self next ⌝ }
-    {
-        if !next.fits {
-            return self;
-        }
-        if !self.fits {
-            return next;
-        }
-        if next.leaves.count <= self.leaves.count {
-            return next;
-        }
-        self
     }
 }
 
@@ -196,33 +180,5 @@ impl Leaves {
         ensures { λ r. ⌜ r ≡ grownOf (expand (netOf inputs (now (gates .entry))) (leafList self) (leaf .0)) ⌝ }
     {
         self.remove(leaf).with_fanins(inputs, gates, leaf)
-    }
-
-    // The better of `best` and the expansion of v, if v is a gate.
-    fn try_leaf(self, inputs: usize, gates: &[u32], v: Var, best: Grown) -> Grown
-        requires { ⌜ (self .count ≤ leafLimit) × (inputs ≤ mostInputs) × (v .0 ≤ last (netOf inputs (now gates))) ⌝ }
-        ensures { λ r. ⌜ r ≡ tried (netOf inputs (now (gates .entry))) (leafList self) (v .0) best ⌝ }
-    {
-        if v.at() <= inputs {
-            return best;
-        }
-        let next = self.expand(inputs, gates, v);
-        best.or(next)
-    }
-
-    // The smallest expansion of at most six leaves, the highest expanded variable's on ties, if there is one.
-    pub fn smallest(self, inputs: usize, gates: &[u32]) -> Grown
-        requires { ⌜ (self .count ≤ leafLimit) × (inputs ≤ mostInputs) × LeavesWithin (netOf inputs (now gates)) (leafList self) ⌝ }
-        ensures { λ r. ⌜ r ≡ grownFrom (smallest (expansions leafLimit (netOf inputs (now (gates .entry))) (leafList self))) ⌝ }
-    {
-        let n = self.count;
-        let mut best = Grown::none();
-        let mut k = 0;
-        while k < n {
-            let v = self.places[k];
-            best = self.try_leaf(inputs, gates, v, best);
-            k += 1;
-        }
-        best
     }
 }

@@ -1,4 +1,4 @@
--- `window::pick_leaves` meets its contract: where the rule comes to from these leaves, it comes to from the root's fanin variables.
+-- `cutter::pick_leaves` meets its contract: where the rule comes to from these leaves, it comes to from the root's fanin variables.
 -- The measure is the sum of 2 ^ v over the leaves v, a number of the logic: no machine word holds it. Assumes nothing.
 use mathlib.Core.Path.{_≡_, ap, _∙_}
 use mathlib.Core.List.{List, []}
@@ -10,11 +10,12 @@ use denote.Ref.{now}
 use Rattle.graph.specs.Graph.{Net, netOf}
 use Rattle.window.specs.Leaves.{leafList, leavesOf}
 use Rattle.window.specs.LeafRule.{withFanins}
-use Rattle.window.specs.Growing.{grownOf, Pickable}
+use Rattle.window.specs.Growing.{grownOf}
+use Rattle.cutter.specs.Picking.{Pickable}
 use Rattle.window.proofs.Weight.{weight}
 use Rattle.window.proofs.Expansions.{fanins-length}
 use Rattle.window.proofs.Growing.{list-of, tidy-of, fits-leaves}
-use Rattle.window.proofs.Taking.{Going, going-start, going-within, going-more, going-less, going-end}
+use Rattle.cutter.proofs.Picking.{Going, going-start, going-within, going-more, going-less, going-end}
 use Rattle.cutter.proofs.pick_leaves.Statement.{statement}
 use Rattle.cutter.proofs.pick_leaves.Tie as tie
 

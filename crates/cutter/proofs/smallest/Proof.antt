@@ -1,4 +1,4 @@
--- `window::Leaves::smallest` meets its contract: the best is the smallest of the expansions of the leaves before k.
+-- `cutter::smallest` meets its contract: the best is the smallest of the expansions of the leaves before k.
 -- Assumes nothing.
 use mathlib.Core.Path.{_≡_, sym, ap, ap₂, _∙_}
 use mathlib.Core.List.{List}
@@ -10,21 +10,22 @@ use lib.ListN.{length, getD, take}
 use lib.Seq.{take-all}
 use Rattle.graph.specs.Graph.{Net, netOf, last}
 use Rattle.graph.proofs.Members.{at-place}
 use Rattle.window.specs.declared.leaf_set.Grown.{Grown}
 use Rattle.window.specs.Leaves.{leafList}
 use Rattle.window.specs.LeafRule.{smallest}
-use Rattle.window.specs.Growing.{grownFrom, tried}
+use Rattle.window.specs.Growing.{grownFrom}
+use Rattle.cutter.specs.Picking.{tried}
 use Rattle.window.proofs.Growing.{length-held, Along, along, along-more, next-leaf, take-more}
-use Rattle.window.proofs.Taking.{over, over-all, first-of, tried-more}
-use Rattle.window.proofs.leaf_set.Leaves.smallest.Statement.{statement}
-use Rattle.window.proofs.leaf_set.Leaves.smallest.Tie as tie
+use Rattle.cutter.proofs.Picking.{over, over-all, first-of, tried-more}
+use Rattle.cutter.proofs.smallest.Statement.{statement}
+use Rattle.cutter.proofs.smallest.Tie as tie
 
 abbrev Inv-loop : tie.InvT-loop
-Inv-loop inputs gates self n best₀ k₀ best k =
-    Along self n k × (best ≡ grownFrom (smallest (over (netOf inputs gates) (leafList self) (take k (leafList self)))))
+Inv-loop inputs gates w n best₀ k₀ best k =
+    Along w n k × (best ≡ grownFrom (smallest (over (netOf inputs gates) (leafList w) (take k (leafList w)))))
 
 abbrev μ-loop : tie.MeasureT-loop
-μ-loop inputs gates self n best₀ k₀ best k = n - k
+μ-loop inputs gates w n best₀ k₀ best k = n - k
 
 abbrev net : tie.At-loop Inv-loop μ-loop → Net
 net l = let s = l .before .before .before in netOf (s .args .inputs) (now (s .args .gates))

@@ -13,17 +13,18 @@ use lib.ListN.{length}
 use Rattle.graph.specs.Lists.{keep}
 use Rattle.graph.specs.Graph.{Net, Graph, free, WellFormed, IsGate}
 use Rattle.graph.proofs.Lists.{at-most-or-above, keep-append}
 use Rattle.window.specs.declared.leaf_set.Leaves.{Leaves}
 use Rattle.window.specs.declared.leaf_set.Grown.{Grown}
 use Rattle.window.specs.Leaves.{leafLimit, leafList, leavesOf}
 use Rattle.window.specs.LeafRule.{withFanins, expand, expansions, smallestFrom, smallest, Chosen, Follows, stops, takes, picked}
-use Rattle.window.specs.Growing.{grownFrom, grownOf, better, tried, Tidy, LeavesWithin, Pickable}
+use Rattle.window.specs.Growing.{grownFrom, grownOf, Tidy}
+use Rattle.cutter.specs.Picking.{better, tried, LeavesWithin, Pickable}
 use Rattle.window.proofs.Growing.{list-of, tidy-of, fits, fits-not}
 use Rattle.window.proofs.Weight.{weight}
 use Rattle.window.proofs.Smallest.{none-smallest}
 use Rattle.window.proofs.Expansions.{CutUnder, fanins-length, start-cuts}
 use Rattle.window.proofs.Choice.{chosen, no-expandable}
 use Rattle.window.proofs.LeafRule.{chosen-cuts, chosen-weighs, rule-only}
 
 -- ---- one more set to choose from
 

@@ -1,13 +1,13 @@
--- `window::Leaves::try_leaf` meets its contract.
+-- `cutter::try_leaf` meets its contract.
 -- Assumes nothing.
 use mathlib.Core.Path.{ap, _∙_}
 use Prim.Native.Nat.{_≤_, _<_}
 use native.Mathlib.Omega.{arith}
 use borrow.Author.Tests.{le-leb, lt-leb}
-use Rattle.window.specs.Growing.{better, tried}
+use Rattle.cutter.specs.Picking.{better, tried}
 use borrow.Author.Needs.{needs}
-use Rattle.window.proofs.leaf_set.Leaves.try_leaf.Statement.{statement}
-use Rattle.window.proofs.leaf_set.Leaves.try_leaf.Tie as tie
+use Rattle.cutter.proofs.try_leaf.Statement.{statement}
+use Rattle.cutter.proofs.try_leaf.Tie as tie
 
 at-requires : tie.Need-at-requires
 at-requires c κs = search needs
@@ -22,15 +22,15 @@ returns c =
 expand-requires : tie.Need-expand-requires
 expand-requires c κs = search needs
 
-or-requires : tie.Need-or-requires
-or-requires c κs = search needs
+smaller-requires : tie.Need-smaller-requires
+smaller-requires c κs = search needs
 
 returns-2 : tie.Need-returns-2
 unfolding tried
 returns-2 c =
     let s = c .before .before .before .before .before in
     let gate : s .args .inputs < s .args .v .0 = omega (arith, c .before .before .before .at .ensures, c .before .before .if1 .left) in
-    rw (lt-leb _ _ gate) (c .or .ensures ∙ ap (better (s .args .best)) (c .before .expand .ensures))
+    rw (lt-leb _ _ gate) (c .smaller .ensures ∙ ap (better (s .args .best)) (c .before .expand .ensures))
 
 pub try-leaf-spec : {M : Type 1} → statement M
-try-leaf-spec = tie.close (tie.spec at-requires returns expand-requires or-requires returns-2)
+try-leaf-spec = tie.close (tie.spec at-requires returns expand-requires smaller-requires returns-2)
