@@ -234,6 +234,13 @@ follow-over zs ts xs k h e l = omega (arith, ap length e, length-append zs (drop
 
 -- ---- the leaves before place k set down anew
 
+-- so far those before k; what F makes of all is these and what it makes of the others
+abbrev pub Rebuilt : (List ℕ → List ℕ) → Leaves → ℕ → Leaves → ℕ → Type 0
+Rebuilt F w n out k =
+    Along w n k
+    × (out ≡ leavesOf (take k (leafList w)))
+    × (F (leafList w) ≡ take k (leafList w) ++ F (drop k (leafList w)))
+
 module _ {w : Leaves} {n k : ℕ} (a : Along w n k) {out : Leaves} (e : out ≡ leavesOf (take k (leafList w))) where
   front-long : length (take k (leafList w)) ≡ k
   front-long = length-take-le k (leafList w) (omega (arith, a .long, a .within))

@@ -12,14 +12,12 @@ use Rattle.window.specs.declared.leaf_set.Grown.{Grown}
 use Rattle.window.specs.Leaves.{leafList, leavesOf}
 use Rattle.window.specs.LeafRule.{put}
 use Rattle.window.specs.Growing.{grownOf}
-use Rattle.window.proofs.Growing.{length-held, Along, along, along-more, next-leaf, fits, fits-not, put-more, put-before, put-already, put-end, put-end-long, front-list, front-tidy, front-room, front-pushed, pushed-list, pushed-tidy, front-more}
+use Rattle.window.proofs.Growing.{length-held, Rebuilt, along, along-more, next-leaf, fits, fits-not, put-more, put-before, put-already, put-end, put-end-long, front-list, front-tidy, front-room, front-pushed, pushed-list, pushed-tidy, front-more}
 use Rattle.window.proofs.leaf_set.Leaves.put.Statement.{statement}
 use Rattle.window.proofs.leaf_set.Leaves.put.Tie as tie
 
 abbrev Inv-loop : tie.InvT-loop
-Inv-loop v self n out₀ k₀ out k =
-    Along self n k × (out ≡ leavesOf (take k (leafList self)))
-    × (put (v .0) (leafList self) ≡ take k (leafList self) ++ put (v .0) (drop k (leafList self)))
+Inv-loop v self n out₀ k₀ out k = Rebuilt (put (v .0)) self n out k
 
 abbrev μ-loop : tie.MeasureT-loop
 μ-loop v self n out₀ k₀ out k = n - k

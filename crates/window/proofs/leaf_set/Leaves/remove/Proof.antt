@@ -9,14 +9,12 @@ use lib.ListN.{length, getD, take, drop}
 use Rattle.window.specs.Leaves.{leafList, leavesOf}
 use Rattle.window.specs.LeafRule.{remove}
 use Rattle.window.specs.Growing.{grownOf}
-use Rattle.window.proofs.Growing.{length-held, Along, along, along-more, next-leaf, fits-leaves, removed-length, remove-more, remove-here, remove-end, front-list, front-tidy, front-room, front-more}
+use Rattle.window.proofs.Growing.{length-held, Rebuilt, along, along-more, next-leaf, fits-leaves, removed-length, remove-more, remove-here, remove-end, front-list, front-tidy, front-room, front-more}
 use Rattle.window.proofs.leaf_set.Leaves.remove.Statement.{statement}
 use Rattle.window.proofs.leaf_set.Leaves.remove.Tie as tie
 
 abbrev Inv-loop : tie.InvT-loop
-Inv-loop v self n out₀ k₀ out k =
-    Along self n k × (out ≡ leavesOf (take k (leafList self)))
-    × (remove (v .0) (leafList self) ≡ take k (leafList self) ++ remove (v .0) (drop k (leafList self)))
+Inv-loop v self n out₀ k₀ out k = Rebuilt (remove (v .0)) self n out k
 
 abbrev μ-loop : tie.MeasureT-loop
 μ-loop v self n out₀ k₀ out k = n - k
