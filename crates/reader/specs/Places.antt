@@ -16,9 +16,7 @@ use Rattle.text.specs.declared.ReadText.{ReadText}
 use Rattle.reader.specs.declared.bytes.ByteStep.{ByteStep}
 use Rattle.text.specs.declared.header.Header.{Header}
 use Rattle.reader.specs.declared.header.HeaderLine.{HeaderLine}
-use Rattle.reader.specs.declared.line.GateLine.{GateLine}
 use Rattle.reader.specs.declared.line.LineStep.{LineStep}
-use Rattle.reader.specs.declared.line.LiteralLine.{LiteralLine}
 use Rattle.reader.specs.declared.number.NumberStep.{NumberStep}
 use Rattle.reader.specs.declared.section.Section.{Section}
 use Rattle.text.specs.Number.{isDigit, digitRun, valueFrom, mostNumber, Front, front}
@@ -36,15 +34,6 @@ byteStep t s = cond (s .found) (some (drop (s .next) t)) none
 -- a line's numbers, where these are what is lent at the end
 unfoldable pub lineStep : List ℕ → List ℕ → LineStep → Option (Front (List ℕ))
 lineStep t ns s = cond (s .found) (some (front ns (drop (s .next) t))) none
-
-unfoldable pub literalStep : List ℕ → LiteralLine → Option (Front (List ℕ))
-literalStep t s = cond (s .found) (some (front (s .literal .0 ∷ []) (drop (s .next) t))) none
-
-abbrev pub gateNumbersOf : GateLine → List ℕ
-gateNumbersOf s = s .left .0 ∷ s .one .0 ∷ s .other .0 ∷ []
-
-unfoldable pub gateStep : List ℕ → GateLine → Option (Front (List ℕ))
-gateStep t s = cond (s .found) (some (front (gateNumbersOf s) (drop (s .next) t))) none
 
 abbrev pub headerNumbers : Header → List ℕ
 headerNumbers h = h .highest ∷ h .inputs ∷ h .latches ∷ h .outputs ∷ h .gates ∷ []

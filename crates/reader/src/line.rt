@@ -3,9 +3,8 @@ ghost use mathlib.Core.Path.{_≡_};
 ghost use lib.ListN.{length, drop};
 ghost use Rattle.text.specs.Line.{lineOf};
 ghost use Rattle.graph.specs.Refuse.{verdictIs};
-ghost use Rattle.reader.specs.Places.{lineStep, literalStep, gateStep, lineRefusal};
+ghost use Rattle.reader.specs.Places.{lineStep, lineRefusal};
 use crate::text_reader::TextReader;
-use graph::Lit;
 use graph::Refusal;
 use graph::Verdict;
 
@@ -42,48 +41,6 @@ pub(crate) fn line_of(text: &[u8], at: usize, numbers: &mut [u32]) -> LineStep
     LineStep {
         found: k == numbers.len(),
         next: reader.at,
-    }
-}
-
-// A line of one literal.
-pub struct LiteralLine {
-    pub found: bool,
-    pub literal: Lit,
-    pub next: usize,
-}
-
-pub(crate) fn literal_line(text: &[u8], at: usize) -> LiteralLine
-    ensures { λ r. ⌜ literalStep (now (text .entry)) r ≡ lineOf 1 (drop at (now (text .entry))) ⌝ }
-{
-    let mut numbers: [u32; 1] = [0; 1];
-    let line = line_of(text, at, &mut numbers);
-    LiteralLine {
-        found: line.found,
-        literal: Lit(numbers[0]),
-        next: line.next,
-    }
-}
-
-// A gate's line: its left side and its right sides as they stand.
-pub struct GateLine {
-    pub found: bool,
-    pub left: Lit,
-    pub one: Lit,
-    pub other: Lit,
-    pub next: usize,
-}
-
-pub(crate) fn gate_line(text: &[u8], at: usize) -> GateLine
-    ensures { λ r. ⌜ gateStep (now (text .entry)) r ≡ lineOf 3 (drop at (now (text .entry))) ⌝ }
-{
-    let mut numbers: [u32; 3] = [0; 3];
-    let line = line_of(text, at, &mut numbers);
-    GateLine {
-        found: line.found,
-        left: Lit(numbers[0]),
-        one: Lit(numbers[1]),
-        other: Lit(numbers[2]),
-        next: line.next,
     }
 }
 

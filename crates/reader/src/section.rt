@@ -5,13 +5,11 @@ ghost use Prim.Native.Nat.{_+_, _*_, _<_, _≤_};
 ghost use lib.ListN.{length, take, drop};
 ghost use Rattle.text.specs.States.{skipped};
 ghost use Rattle.text.specs.Reading.{gateNeeded, inputsNeeded, outputsNeeded, gatesNeeded, gateWords};
-ghost use Rattle.reader.specs.Places.{Limited, noWords, outputWords, gateNumbersOf, readWords, sectionWords};
+ghost use Rattle.reader.specs.Places.{Limited, noWords, outputWords, readWords, sectionWords};
 ghost use Rattle.graph.specs.Graph.{mostInputs, mostGates, largerFirst};
 ghost use Rattle.graph.specs.Lent.{laid};
-use crate::line::GateLine;
-use crate::line::gate_line;
+use crate::line::line_of;
 use crate::line::line_verdict;
-use crate::line::literal_line;
 use graph::Lit;
 use graph::Refusal;
 use graph::Var;
@@ -33,8 +31,9 @@ pub(crate) fn read_inputs(text: &[u8], at: usize, header: Header) -> Section
     let mut next = at;
     let mut k: u32 = 0;
     while k < count {
-        let line = literal_line(text, next);
-        let kept = line.literal.0 == Var(k + 1).plain().0;
+        let mut numbers: [u32; 1] = [0; 1];
+        let line = line_of(text, next, &mut numbers);
+        let kept = numbers[0] == Var(k + 1).plain().0;
         if let Verdict::Refused(refusal) = line_verdict(line.found, kept) {
             return Section::Wrong(refusal);
         }
@@ -55,31 +54,32 @@ pub(crate) fn read_outputs(text: &[u8], at: usize, header: Header, words: &mut [
     let mut next = at;
     let mut k: usize = 0;
     while k < count {
-        let line = literal_line(text, next);
-        let kept = line.literal.0 <= most;
+        let mut numbers: [u32; 1] = [0; 1];
+        let line = line_of(text, next, &mut numbers);
+        let kept = numbers[0] <= most;
         if let Verdict::Refused(refusal) = line_verdict(line.found, kept) {
             return Section::Wrong(refusal);
         }
-        words[k] = line.literal.0;
+        words[k] = numbers[0];
         next = line.next;
         k += 1;
     }
     Section::Ends(next)
 }
 
-// That a line is the line of this gate: the gate's own literal on the left, and smaller ones on the right.
-fn is_gate_of(line: GateLine, gate: Var) -> bool
+// That a line's numbers are this gate's: its own literal on the left, and smaller ones on the right.
+fn is_gate_line(numbers: [u32; 3], gate: Var) -> bool
     requires { ⌜ gate .0 ≤ mostInputs + mostGates ⌝ }
-    ensures { λ r. ⌜ r ≡ (gateNeeded (gate .0)) .rule (gateNumbersOf line) ⌝ }
+    ensures { λ r. ⌜ r ≡ (gateNeeded (gate .0)) .rule numbers ⌝ }
 {
-    let own = gate.plain();
-    if line.left.0 != own.0 {
+    let own = gate.plain().0;
+    if numbers[0] != own {
         return false;
     }
-    if own.0 <= line.one.0 {
+    if own <= numbers[1] {
         return false;
     }
-    line.other.0 < own.0
+    numbers[2] < own
 }
 
 // Stores a gate's two literals, the larger first.
@@ -108,12 +108,13 @@ pub(crate) fn read_gates(text: &[u8], at: usize, header: Header, words: &mut [u3
     let mut next = at;
     let mut k: u32 = 0;
     while k < count {
-        let line = gate_line(text, next);
-        let kept = is_gate_of(line, Var(inputs + k + 1));
+        let mut numbers: [u32; 3] = [0; 3];
+        let line = line_of(text, next, &mut numbers);
+        let kept = is_gate_line(numbers, Var(inputs + k + 1));
         if let Verdict::Refused(refusal) = line_verdict(line.found, kept) {
             return Section::Wrong(refusal);
         }
-        store_gate(words, 2 * (k as usize), line.one, line.other);
+        store_gate(words, 2 * (k as usize), Lit(numbers[1]), Lit(numbers[2]));
         next = line.next;
         k += 1;
     }

@@ -1,6 +1,8 @@
--- `text::section::read_gates` meets its contract: the loop reads the lines needed, in order, up to the first that is not right, and stores their gates' words.
+-- `reader::section::read_gates` meets its contract: the loop reads the lines needed, in order, up to the first that is not right,
+-- and stores their gates' words.
 -- Assumes nothing.
-use mathlib.Core.Path.{_≡_, refl, sym}
+use mathlib.Core.Path.{_≡_, refl, sym, ap₂, _∙_}
+use mathlib.Core.List.{_++_}
 use Prim.Native.Nat.{ℕ, suc, _+_, _*_, _-_, _≤_, _<_}
 use native.Mathlib.Numerals.{add-one}
 use native.Mathlib.Omega.{arith}
@@ -8,7 +10,7 @@ use borrow.Author.Needs.{needs}
 use lib.ListN.{length, take, drop}
 use Rattle.graph.specs.Graph.{largerFirst}
 use Rattle.text.specs.Reading.{Needed, gateNeeded, gateWords}
-use Rattle.reader.specs.Places.{gateStep, sectionWords}
+use Rattle.reader.specs.Places.{lineStep, sectionWords}
 use Rattle.reader.proofs.Sections.{SoFar, none-so-far, line-refused, line-fine}
 use Rattle.graph.proofs.StoredWords.{take-laid}
 use Rattle.reader.proofs.section.read_gates.Statement.{statement}
@@ -26,20 +28,36 @@ Inv-loop text at stored₀ inputs count next₀ k₀ stored next k =
 abbrev μ-loop : tie.MeasureT-loop
 μ-loop text at stored₀ inputs count next₀ k₀ stored next k = count - k
 
+-- ---- the places before the verdict on a line: its rule is tested, the line is read, the loop is at it
+
+abbrev tested : tie.After-line-verdict Inv-loop μ-loop → tie.After-is-gate-line Inv-loop μ-loop
+tested judged = judged .before
+
+abbrev read : tie.After-line-verdict Inv-loop μ-loop → tie.After-line-of Inv-loop μ-loop
+read judged = tested judged .before .before
+
+abbrev inside : tie.After-line-verdict Inv-loop μ-loop → tie.In-loop Inv-loop μ-loop
+inside judged = read judged .before .before
+
+-- ---- the needs
+
 loop-holds : tie.Need-loop-holds Inv-loop μ-loop
 loop-holds c = (search needs, refl, none-so-far)
 
-gate-line-requires : tie.Need-gate-line-requires Inv-loop μ-loop
-gate-line-requires c κs = search needs
+slice-aggregate-line-of : tie.Need-slice-aggregate-line-of Inv-loop μ-loop
+slice-aggregate-line-of c = search needs
 
-add-t13 : tie.Need-add-t13 Inv-loop μ-loop
-add-t13 c = omega arith
+line-of-requires : tie.Need-line-of-requires Inv-loop μ-loop
+line-of-requires c κs = search needs
 
-add-t14 : tie.Need-add-t14 Inv-loop μ-loop
-add-t14 c = omega arith
+add-t17 : tie.Need-add-t17 Inv-loop μ-loop
+add-t17 c = omega arith
 
-is-gate-of-requires : tie.Need-is-gate-of-requires Inv-loop μ-loop
-is-gate-of-requires c κs = omega arith
+add-t18 : tie.Need-add-t18 Inv-loop μ-loop
+add-t18 c = omega arith
+
+is-gate-line-requires : tie.Need-is-gate-line-requires Inv-loop μ-loop
+is-gate-line-requires c κs = omega arith
 
 line-verdict-requires : tie.Need-line-verdict-requires Inv-loop μ-loop
 line-verdict-requires c κs = search needs
@@ -51,14 +69,13 @@ same-length : tie.Need-same-length Inv-loop μ-loop
 same-length c = search needs
 
 returns : tie.Need-returns Inv-loop μ-loop
-unfolding sectionWords gateStep gateNeeded
+unfolding sectionWords lineStep gateNeeded
 returns c =
     let judged = c .before .before .before in
-    let tested = judged .before in
-    let read = tested .before in
     sym
-    (line-refused (read .before .before .loop .inv .2) _ _ (read .gate-line .ensures) (rw add-one at (tested .is-gate-of .ensures)) (judged .line-verdict .ensures)
-    (c .before .refusal .given .1) (read .before .loop-test .taken))
+    (line-refused (inside judged .before .loop .inv .2) _ _ (read judged .line-of .ensures)
+    (rw add-one at (tested judged .is-gate-line .ensures))
+    (judged .line-verdict .ensures) (c .before .refusal .given .1) (inside judged .loop-test .taken))
 
 enum-told : tie.Need-enum-told Inv-loop μ-loop
 enum-told c = search needs
@@ -69,9 +86,15 @@ cast-store-gate c = omega arith
 mul-store-gate : tie.Need-mul-store-gate Inv-loop μ-loop
 mul-store-gate c = omega arith
 
+array-read-t17 : tie.Need-array-read-t17 Inv-loop μ-loop
+array-read-t17 c = search needs
+
+array-read-t18 : tie.Need-array-read-t18 Inv-loop μ-loop
+array-read-t18 c = search needs
+
 store-gate-requires : tie.Need-store-gate-requires Inv-loop μ-loop
 store-gate-requires c κs =
-    let l = c .before .before .before .before .before .before .before in
+    let l = inside (c .before .before .before) .before in
     let room : 2 * l .loop .k + 1 < length (l .loop .words) = omega arith in
     room
 
@@ -82,21 +105,22 @@ loop-less : tie.Need-loop-less Inv-loop μ-loop
 loop-less c = omega arith
 
 loop-again : tie.Need-loop-again Inv-loop μ-loop
-unfolding gateStep gateNeeded gateWords largerFirst
+unfolding lineStep gateNeeded gateWords largerFirst
 loop-again c =
     let stored = c .before .before in
     let fine = stored .before .before in
     let judged = fine .before .before in
-    let tested = judged .before in
-    let read = tested .before in
-    let l = read .before .before in
-    let a = read .gate-line .result in
+    let l = inside judged .before in
+    let ns = read judged .line-of .last .1 .1 .0 in
     let room : 2 * l .loop .k ≤ length (l .loop .words) = omega arith in
-    let turn : 2 * (l .loop .k + 1) ≡ 2 * l .loop .k + 2 = omega arith in (
+    let laid : take (2 * (l .loop .k + 1)) (stored .store-gate .last .0) ≡ take (2 * l .loop .k) (l .loop .words) ++ gateWords ns =
+    let turn : 2 * (l .loop .k + 1) ≡ 2 * l .loop .k + 2 = omega arith in
+    ap₂ take turn (stored .store-gate .ensures) ∙ take-laid (2 * l .loop .k) (l .loop .words) (gateWords ns) room in (
       omega arith,
       omega arith,
-      rw (turn, stored .store-gate .ensures, take-laid (2 * l .loop .k) (l .loop .words) (largerFirst (a .one .0) (a .other .0)) room)
-          (line-fine (l .loop .inv .2) _ _ (read .gate-line .ensures) (rw add-one at (tested .is-gate-of .ensures)) (judged .line-verdict .ensures) (fine .enum-told .given .1)),
+      rw laid
+          (line-fine (l .loop .inv .2) _ _ (read judged .line-of .ensures) (rw add-one at (tested judged .is-gate-line .ensures))
+          (judged .line-verdict .ensures) (fine .enum-told .given .1)),
     )
 
 same-length-2 : tie.Need-same-length-2 Inv-loop μ-loop
@@ -116,10 +140,11 @@ read-gates-spec =
     Inv-loop
     μ-loop
     loop-holds
-    gate-line-requires
-    add-t13
-    add-t14
-    is-gate-of-requires
+    slice-aggregate-line-of
+    line-of-requires
+    add-t17
+    add-t18
+    is-gate-line-requires
     line-verdict-requires
     enum-known-refusal
     same-length
@@ -127,6 +152,8 @@ read-gates-spec =
     enum-told
     cast-store-gate
     mul-store-gate
+    array-read-t17
+    array-read-t18
     store-gate-requires
     add-k
     loop-less

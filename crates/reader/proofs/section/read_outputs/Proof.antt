@@ -1,4 +1,5 @@
--- `text::section::read_outputs` meets its contract: the loop reads the lines needed, in order, up to the first that is not right, and stores their literals.
+-- `reader::section::read_outputs` meets its contract: the loop reads the lines needed, in order, up to the first that is not right,
+-- and stores their literals.
 -- Assumes nothing.
 use mathlib.Core.Path.{_≡_, refl, sym}
 use Prim.Native.Nat.{ℕ, _+_, _*_, _-_, _≤_, _<_}
@@ -9,7 +10,7 @@ use lib.Dec.{leb}
 use lib.ListN.{length, getD, take, drop, length-set}
 use lib.Seq.{take-suc-set}
 use Rattle.text.specs.Reading.{Needed, outputNeeded}
-use Rattle.reader.specs.Places.{literalStep, outputWords, sectionWords}
+use Rattle.reader.specs.Places.{lineStep, outputWords, sectionWords}
 use Rattle.reader.proofs.Sections.{SoFar, none-so-far, line-refused, line-fine}
 use Rattle.reader.proofs.section.read_outputs.Statement.{statement}
 use Rattle.reader.proofs.section.read_outputs.Tie as tie
@@ -26,11 +27,26 @@ Inv-loop text at stored₀ most count next₀ k₀ stored next k =
 abbrev μ-loop : tie.MeasureT-loop
 μ-loop text at stored₀ most count next₀ k₀ stored next k = count - k
 
-abbrev start : tie.At-loop Inv-loop μ-loop → tie.Start Inv-loop μ-loop
-start l = l .before .before .before .before .before .before
+-- ---- the places before the loop
 
-most-is : (l : tie.At-loop Inv-loop μ-loop) → l .before .before .before .plain .result .0 + 1 ≡ 2 * start l .args .header .highest + 1
-most-is l = omega (arith, l .before .before .before .plain .ensures)
+abbrev largest : tie.At-loop Inv-loop μ-loop → tie.After-plain Inv-loop μ-loop
+largest l = l .before .before .before
+
+abbrev start : tie.At-loop Inv-loop μ-loop → tie.Start Inv-loop μ-loop
+start l = largest l .before .before .before
+
+most-is : (l : tie.At-loop Inv-loop μ-loop) → largest l .plain .result .0 + 1 ≡ 2 * start l .args .header .highest + 1
+most-is l = omega (arith, largest l .plain .ensures)
+
+-- ---- the places before the verdict on a line: the line is read, the loop is at it
+
+abbrev read : tie.After-line-verdict Inv-loop μ-loop → tie.After-line-of Inv-loop μ-loop
+read judged = judged .before .before
+
+abbrev inside : tie.After-line-verdict Inv-loop μ-loop → tie.In-loop Inv-loop μ-loop
+inside judged = read judged .before .before
+
+-- ---- the needs
 
 plain-requires : tie.Need-plain-requires Inv-loop μ-loop
 plain-requires c κs = search needs
@@ -44,8 +60,14 @@ cast-count c = omega arith
 loop-holds : tie.Need-loop-holds Inv-loop μ-loop
 loop-holds c = (search needs, refl, none-so-far)
 
-literal-line-requires : tie.Need-literal-line-requires Inv-loop μ-loop
-literal-line-requires c κs = search needs
+slice-aggregate-line-of : tie.Need-slice-aggregate-line-of Inv-loop μ-loop
+slice-aggregate-line-of c = search needs
+
+line-of-requires : tie.Need-line-of-requires Inv-loop μ-loop
+line-of-requires c κs = search needs
+
+array-read-kept : tie.Need-array-read-kept Inv-loop μ-loop
+array-read-kept c = search needs
 
 line-verdict-requires : tie.Need-line-verdict-requires Inv-loop μ-loop
 line-verdict-requires c κs = search needs
@@ -57,17 +79,20 @@ same-length : tie.Need-same-length Inv-loop μ-loop
 same-length c = search needs
 
 returns : tie.Need-returns Inv-loop μ-loop
-unfolding sectionWords literalStep outputNeeded
+unfolding sectionWords lineStep outputNeeded
 returns c =
     let judged = c .before .before .before in
-    let read = judged .before .before in
-    let l = read .before .before in
+    let l = inside judged .before in
     sym
     (rw (most-is l) at
-    (line-refused (l .loop .inv .2) _ _ (read .literal-line .ensures) refl (judged .line-verdict .ensures) (c .before .refusal .given .1) (read .before .loop-test .taken)))
+    (line-refused (l .loop .inv .2) _ _ (read judged .line-of .ensures) refl
+    (judged .line-verdict .ensures) (c .before .refusal .given .1) (inside judged .loop-test .taken)))
 
 enum-told : tie.Need-enum-told Inv-loop μ-loop
 enum-told c = search needs
+
+array-read-words : tie.Need-array-read-words Inv-loop μ-loop
+array-read-words c = search needs
 
 mul-words : tie.Need-mul-words Inv-loop μ-loop
 mul-words c = search needs
@@ -82,16 +107,15 @@ loop-less : tie.Need-loop-less Inv-loop μ-loop
 loop-less c = omega arith
 
 loop-again : tie.Need-loop-again Inv-loop μ-loop
-unfolding literalStep
+unfolding lineStep
 loop-again c =
     let judged = c .before .before in
-    let read = judged .before .before in
-    let l = read .before .before in
+    let l = inside judged .before in
     let room : l .loop .k < length (l .loop .words) = omega (arith, start l .pre .1) in (
       omega arith,
       simp length-set (omega arith),
       rw (add-one (l .loop .k), take-suc-set, ← add-one (l .loop .k))
-          (line-fine (l .loop .inv .2) _ _ (read .literal-line .ensures) refl (judged .line-verdict .ensures) (c .enum-told .given .1)),
+          (line-fine (l .loop .inv .2) _ _ (read judged .line-of .ensures) refl (judged .line-verdict .ensures) (c .enum-told .given .1)),
     )
 
 same-length-2 : tie.Need-same-length-2 Inv-loop μ-loop
@@ -114,12 +138,15 @@ read-outputs-spec =
     add-most
     cast-count
     loop-holds
-    literal-line-requires
+    slice-aggregate-line-of
+    line-of-requires
+    array-read-kept
     line-verdict-requires
     enum-known-refusal
     same-length
     returns
     enum-told
+    array-read-words
     mul-words
     slice-write-words
     add-k
