@@ -97,20 +97,20 @@ fn store_gate(words: &mut [u32], at: usize, one: Lit, other: Lit)
     }
 }
 
-// Gate line k has left side 2(I + k), and its right sides in either order.
+// Gate line k has left side 2(F + k), where F variables stand before the first gate, and its right sides in either order.
 pub(crate) fn read_gates(text: &[u8], at: usize, header: Header, words: &mut [u32]) -> Section
     requires { ⌜ Limited header ⌝ }
     requires { ⌜ 2 * header .gates ≤ length (now words) ⌝ }
     ensures { λ r. ⌜ sectionWords (now (text .entry)) (take (2 * header .gates) (now (words .exit))) r ≡ readWords gateWords (gatesNeeded header) (drop at (now (text .entry))) ⌝ }
 {
-    let inputs = header.inputs;
+    let free = header.free();
     let count = header.gates;
     let mut next = at;
     let mut k: u32 = 0;
     while k < count {
         let mut numbers: [u32; 3] = [0; 3];
         let line = line_of(text, next, &mut numbers);
-        let kept = is_gate_line(numbers, Var(inputs + k + 1));
+        let kept = is_gate_line(numbers, Var(free + k + 1));
         if let Verdict::Refused(refusal) = line_verdict(line.found, kept) {
             return Section::Wrong(refusal);
         }

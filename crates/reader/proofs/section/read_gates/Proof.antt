@@ -1,32 +1,44 @@
 -- `reader::section::read_gates` meets its contract: the loop reads the lines needed, in order, up to the first that is not right,
 -- and stores their gates' words.
 -- Assumes nothing.
-use mathlib.Core.Path.{_≡_, refl, sym, ap₂, _∙_}
-use mathlib.Core.List.{_++_}
+use mathlib.Core.Path.{_≡_, refl, sym, ap, ap₂, _∙_}
+use mathlib.Core.List.{List, _++_}
 use Prim.Native.Nat.{ℕ, suc, _+_, _*_, _-_, _≤_, _<_}
 use native.Mathlib.Numerals.{add-one}
 use native.Mathlib.Omega.{arith}
 use borrow.Author.Needs.{needs}
 use lib.ListN.{length, take, drop}
 use Rattle.graph.specs.Graph.{largerFirst}
-use Rattle.text.specs.Reading.{Needed, gateNeeded, gateWords}
-use Rattle.reader.specs.Places.{lineStep, sectionWords}
+use Rattle.text.specs.declared.header.Header.{Header}
+use Rattle.text.specs.Reading.{Needed, freeOf, gateNeeded, gateWords}
+use Rattle.reader.specs.Places.{lineStep, readWords, sectionWords}
 use Rattle.reader.proofs.Sections.{SoFar, none-so-far, line-refused, line-fine}
+use Rattle.graph.proofs.Gathered.{singles}
 use Rattle.graph.proofs.StoredWords.{take-laid}
 use Rattle.reader.proofs.section.read_gates.Statement.{statement}
 use Rattle.reader.proofs.section.read_gates.Tie as tie
 
 -- gate line k, counted from 0
 abbrev need : ℕ → ℕ → Needed
-need inputs k = gateNeeded (suc (inputs + k))
+need free k = gateNeeded (suc (free + k))
 
 abbrev Inv-loop : tie.InvT-loop
-Inv-loop text at stored₀ inputs count next₀ k₀ stored next k =
+Inv-loop text at stored₀ free count next₀ k₀ stored next k =
     (k ≤ count) × (length stored ≡ length stored₀)
-    × SoFar gateWords (need inputs) (drop at text) k (take (2 * k) stored) (drop next text)
+    × SoFar gateWords (need free) (drop at text) k (take (2 * k) stored) (drop next text)
 
 abbrev μ-loop : tie.MeasureT-loop
-μ-loop text at stored₀ inputs count next₀ k₀ stored next k = count - k
+μ-loop text at stored₀ free count next₀ k₀ stored next k = count - k
+
+-- ---- where the gates start
+
+abbrev header : tie.At-loop Inv-loop μ-loop → Header
+header l = l .before .before .before .before .args .header
+
+-- the lines from the answer on are the header's
+lines-from : (l : tie.At-loop Inv-loop μ-loop) (n : ℕ) (t : List ℕ)
+    → readWords gateWords (singles (need (l .before .free .result)) n) t ≡ readWords gateWords (singles (need (freeOf (header l))) n) t
+lines-from l n t = ap (λ (free : ℕ). readWords gateWords (singles (need free) n) t) (l .before .free .ensures)
 
 -- ---- the places before the verdict on a line: its rule is tested, the line is read, the loop is at it
 
@@ -40,6 +52,9 @@ abbrev inside : tie.After-line-verdict Inv-loop μ-loop → tie.In-loop Inv-loop
 inside judged = read judged .before .before
 
 -- ---- the needs
+
+free-requires : tie.Need-free-requires Inv-loop μ-loop
+free-requires c κs = search needs
 
 loop-holds : tie.Need-loop-holds Inv-loop μ-loop
 loop-holds c = (search needs, refl, none-so-far)
@@ -72,10 +87,11 @@ returns : tie.Need-returns Inv-loop μ-loop
 unfolding sectionWords lineStep gateNeeded
 returns c =
     let judged = c .before .before .before in
+    let l = inside judged .before in
     sym
-    (line-refused (inside judged .before .loop .inv .2) _ _ (read judged .line-of .ensures)
-    (rw add-one at (tested judged .is-gate-line .ensures))
+    (line-refused (l .loop .inv .2) _ _ (read judged .line-of .ensures) (rw add-one at (tested judged .is-gate-line .ensures))
     (judged .line-verdict .ensures) (c .before .refusal .given .1) (inside judged .loop-test .taken))
+    ∙ lines-from l _ _
 
 enum-told : tie.Need-enum-told Inv-loop μ-loop
 enum-told c = search needs
@@ -130,8 +146,8 @@ returns-2 : tie.Need-returns-2 Inv-loop μ-loop
 unfolding sectionWords
 returns-2 c =
     let l = c .before in
-    let e : l .loop .k ≡ l .before .before .before .args .header .gates = omega arith in
-    sym (rw e at (l .loop .inv .2 .is))
+    let e : l .loop .k ≡ header l .gates = omega arith in
+    sym (rw e at (l .loop .inv .2 .is)) ∙ lines-from l _ _
 
 pub read-gates-spec : {M : Type 1} → statement M
 read-gates-spec =
@@ -139,6 +155,7 @@ read-gates-spec =
     (tie.spec
     Inv-loop
     μ-loop
+    free-requires
     loop-holds
     slice-aggregate-line-of
     line-of-requires
