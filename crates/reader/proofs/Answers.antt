@@ -7,7 +7,7 @@ use lib.ListN.{drop}
 use denote.Struct.Laws as LL
 use Rattle.text.specs.Number.{number}
 use Rattle.text.specs.Line.{after}
-use Rattle.reader.specs.Places.{numberStep, byteStep}
+use Rattle.reader.specs.Tokens.{numberStep, byteStep}
 use Rattle.reader.proofs.number.NumberStep as N
 use Rattle.reader.proofs.number.NumberStep.Laws as N′
 use Rattle.reader.proofs.bytes.ByteStep as B

@@ -15,7 +15,7 @@ use Rattle.text.specs.Number.{Front}
 use Rattle.text.specs.Line.{lineOf}
 use Rattle.text.specs.States.{skipped}
 use Rattle.text.specs.Reading.{Needed, inputsNeeded, outputsNeeded, gatesNeeded, sections, linesNeeded, Lines, right, withLine, readLines, gateWords, graphIn, graphRead, refuses, yields, readBody}
-use Rattle.reader.specs.Places.{Words, words, withWords, readWords, noWords, outputWords}
+use Rattle.reader.specs.Sections.{Words, words, withWords, readWords, noWords, outputWords}
 use Rattle.graph.proofs.Gathered.{cut-joined}
 use Rattle.text.proofs.Reading.{body-wrong, body-right}
 

@@ -13,7 +13,8 @@ use Rattle.reader.specs.declared.header.HeaderLine.{HeaderLine}
 use Rattle.graph.specs.declared.verdict.Verdict.{Verdict}
 use Rattle.text.specs.Number.{front}
 use Rattle.text.specs.Reading.{headerLine, headerRefusals, refuses, readBody, reading}
-use Rattle.reader.specs.Places.{headerNumbers, headerStep, Limited}
+use Rattle.reader.specs.Lines.{headerNumbers, headerStep}
+use Rattle.reader.specs.Sections.{Limited}
 use Rattle.text.proofs.Reading.{no-first-line, first-line-refused, first-line-passes, header-within-iff}
 
 pub header-missing : (t : List ℕ) (s : HeaderLine) → headerStep t s ≡ headerLine t → s .found ≡ false → reading t ≡ refuses BadHeader

@@ -14,7 +14,7 @@ use Rattle.graph.proofs.Tests.{no-room-iff, room-for}
 use Rattle.text.specs.declared.ReadText.{ReadText}
 use Rattle.text.specs.Reading.{yields, reading}
 use Rattle.text.specs.Calls.{withRoom, readEffect}
-use Rattle.reader.specs.Places.{readingOf, Counted, counts}
+use Rattle.reader.specs.KeptAside.{readingOf, Counted, counts}
 use Rattle.text.proofs.Reading.{reads-graph}
 
 -- the answer x, and the words aside, are what the text t is read as

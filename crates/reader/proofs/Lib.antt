@@ -2,9 +2,8 @@ pub mod Walk
 pub mod Answers
 pub mod Thin
 pub mod Asked
-pub mod Runs
-pub mod Steps
-pub mod Lined
+pub mod Tokens
+pub mod Lines
 pub mod FirstLine
 pub mod Sections
 pub mod BySection

@@ -1,1 +1,4 @@
-pub mod Places
+pub mod Tokens
+pub mod Lines
+pub mod Sections
+pub mod KeptAside

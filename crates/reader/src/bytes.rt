@@ -3,7 +3,7 @@ ghost use mathlib.Core.Path.{_≡_};
 ghost use mathlib.Core.List.{[], _∷_};
 ghost use lib.ListN.{drop};
 ghost use Rattle.text.specs.Line.{space, lineFeed, after};
-ghost use Rattle.reader.specs.Places.{byteStep};
+ghost use Rattle.reader.specs.Tokens.{byteStep};
 
 // That the byte stands at the place, and the place after it.
 pub struct ByteStep {

@@ -3,7 +3,7 @@ ghost use mathlib.Core.Path.{_≡_};
 ghost use lib.ListN.{length, drop};
 ghost use Rattle.text.specs.Line.{lineOf};
 ghost use Rattle.graph.specs.Refuse.{verdictIs};
-ghost use Rattle.reader.specs.Places.{lineStep, lineRefusal};
+ghost use Rattle.reader.specs.Lines.{lineStep, lineRefusal};
 use crate::text_reader::TextReader;
 use graph::Refusal;
 use graph::Verdict;

@@ -2,7 +2,7 @@
 ghost use mathlib.Core.Path.{_≡_};
 ghost use lib.ListN.{drop};
 ghost use Rattle.text.specs.Number.{number};
-ghost use Rattle.reader.specs.Places.{digitAt, numberStep, runValue};
+ghost use Rattle.reader.specs.Tokens.{digitAt, numberStep, runValue};
 
 // A number that stands at a place, and the place after it; or that none stands there.
 pub struct NumberStep {

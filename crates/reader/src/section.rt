@@ -5,7 +5,7 @@ ghost use Prim.Native.Nat.{_+_, _*_, _<_, _≤_};
 ghost use lib.ListN.{length, take, drop};
 ghost use Rattle.text.specs.States.{skipped};
 ghost use Rattle.text.specs.Reading.{gateNeeded, inputsNeeded, outputsNeeded, gatesNeeded, gateWords};
-ghost use Rattle.reader.specs.Places.{Limited, noWords, outputWords, readWords, sectionWords};
+ghost use Rattle.reader.specs.Sections.{Limited, noWords, outputWords, readWords, sectionWords};
 ghost use Rattle.graph.specs.Graph.{mostInputs, mostGates, largerFirst};
 ghost use Rattle.graph.specs.Lent.{laid};
 use crate::line::line_of;

@@ -5,7 +5,7 @@ ghost use mathlib.Core.List.{[], _∷_};
 ghost use lib.ListN.{drop};
 ghost use Rattle.text.specs.Line.{space, lineFeed, after};
 ghost use Rattle.text.specs.Number.{number};
-ghost use Rattle.reader.specs.Places.{byteStep, numberStep};
+ghost use Rattle.reader.specs.Tokens.{byteStep, numberStep};
 use crate::bytes::ByteStep;
 use crate::bytes::line_end_at;
 use crate::bytes::space_at;

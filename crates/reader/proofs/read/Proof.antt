@@ -1,4 +1,4 @@
--- `text::from_text::read` meets its contract: the words are kept aside until the text is judged, and copied where both lists have room.
+-- `reader::read` meets its contract: the words are kept aside until the text is judged, and copied where both lists have room.
 -- Assumes nothing.
 use mathlib.Core.Path.{ap₂, _∙_}
 use mathlib.Core.List.{List}

@@ -1,4 +1,4 @@
--- `text::from_text::read_aside` meets its contract: the first line is judged first, and then the lines after it are read.
+-- `reader::aside::read_aside` meets its contract: the first line is judged first, and then the lines after it are read.
 -- Assumes nothing.
 use mathlib.Core.Path.{sym}
 use mathlib.Core.List.{List}
@@ -6,7 +6,7 @@ use Prim.Native.Nat.{ℕ}
 use borrow.Author.Needs.{needs}
 use borrow.Author.Tests.{not-true, not-false}
 use denote.Ref.{now}
-use Rattle.reader.specs.Places.{readingOf, none-counted}
+use Rattle.reader.specs.KeptAside.{readingOf, none-counted}
 use Rattle.reader.proofs.FirstLine.{Judged, header-missing, header-refused, header-fine, header-limited}
 use Rattle.reader.proofs.aside.read_aside.Statement.{statement}
 use Rattle.reader.proofs.aside.read_aside.Tie as tie

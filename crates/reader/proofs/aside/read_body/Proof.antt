@@ -1,4 +1,4 @@
--- `text::from_text::read_body` meets its contract: each section goes on where the one before it ends, and the first wrong line decides.
+-- `reader::aside::read_body` meets its contract: each section goes on where the one before it ends, and the first wrong line decides.
 -- Assumes nothing.
 use mathlib.Core.Path.{_≡_, sym, ap, _∙_}
 use mathlib.Core.List.{List, []}
@@ -9,7 +9,8 @@ use denote.Ref.{now}
 use lib.ListN.{take, drop}
 use Rattle.text.specs.declared.header.Header.{Header}
 use Rattle.text.specs.Reading.{inputsNeeded, outputsNeeded, gatesNeeded, gateWords}
-use Rattle.reader.specs.Places.{noWords, outputWords, words, readWords, sectionWords, readingOf, counts, none-counted}
+use Rattle.reader.specs.Sections.{noWords, outputWords, words, readWords, sectionWords}
+use Rattle.reader.specs.KeptAside.{readingOf, counts, none-counted}
 use Rattle.reader.proofs.BySection.{inputs-wrong, outputs-wrong, gates-wrong, rest-wrong, all-right}
 use Rattle.reader.proofs.aside.read_body.Statement.{statement}
 use Rattle.reader.proofs.aside.read_body.Tie as tie

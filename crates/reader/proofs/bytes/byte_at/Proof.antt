@@ -1,4 +1,4 @@
--- `text::bytes::byte_at` meets its contract: the text from a place on starts with the byte there.
+-- `reader::bytes::byte_at` meets its contract: the text from a place on starts with the byte there.
 -- Assumes nothing.
 use mathlib.Core.Path.{sym}
 use Prim.Native.Nat.{_<_}
@@ -9,7 +9,7 @@ use borrow.Author.Tests.{eq-eqb, ne-eqb}
 use lib.ListN.{length, drop-of-length-le}
 use lib.Seq.{drop-cons}
 use Rattle.text.specs.Line.{after}
-use Rattle.reader.specs.Places.{byteStep}
+use Rattle.reader.specs.Tokens.{byteStep}
 use Rattle.reader.proofs.bytes.byte_at.Statement.{statement}
 use Rattle.reader.proofs.bytes.byte_at.Tie as tie
 

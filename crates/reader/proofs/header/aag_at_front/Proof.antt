@@ -1,8 +1,8 @@
--- `text::header::aag_at_front` meets its contract: the four bytes, one step each.
+-- `reader::header::aag_at_front` meets its contract: the four bytes, one step each.
 -- Assumes nothing.
 use mathlib.Core.Path.{sym, _∙_}
 use borrow.Author.Tests.{not-true, not-false}
-use Rattle.reader.proofs.Steps.{bytes-stop, bytes-go-on, no-byte-found}
+use Rattle.reader.proofs.Tokens.{bytes-stop, bytes-go-on, no-byte-found}
 use borrow.Author.Needs.{needs}
 use Rattle.reader.proofs.header.aag_at_front.Statement.{statement}
 use Rattle.reader.proofs.header.aag_at_front.Tie as tie

@@ -1,10 +1,9 @@
--- `text::header::header_line` meets its contract: `aag` and a space, then the line's five numbers as `line_of` stored them.
+-- `reader::header::header_line` meets its contract: `aag` and a space, then the line's five numbers as `line_of` stored them.
 -- Assumes nothing.
 use mathlib.Core.Path.{sym, _∙_}
 use borrow.Author.Tests.{not-true, not-false}
-use Rattle.reader.specs.Places.{headerStep}
-use Rattle.reader.proofs.Lined.{line-picked}
-use Rattle.reader.proofs.Steps.{no-header-found, header-stops, header-goes-on}
+use Rattle.reader.specs.Lines.{headerStep}
+use Rattle.reader.proofs.Lines.{line-picked, no-header-found, header-stops, header-goes-on}
 use borrow.Author.Needs.{needs}
 use Rattle.reader.proofs.header.header_line.Statement.{statement}
 use Rattle.reader.proofs.header.header_line.Tie as tie

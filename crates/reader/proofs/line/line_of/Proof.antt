@@ -1,4 +1,4 @@
--- `text::line::line_of` meets its contract: a walk of its MIR, by hand. One reader is asked for a number and for the separator after it, turn by turn, and its place is moved on.
+-- `reader::line::line_of` meets its contract: a walk of its MIR, by hand. One reader is asked for a number and for the separator after it, turn by turn, and its place is moved on.
 -- Assumes nothing.
 use mathlib.Core.Path.{_≡_, refl, sym, _∙_, ap}
 use mathlib.Core.Bool.{true, not}
@@ -48,7 +48,8 @@ use Rattle.reader.specs.declared.line.LineStep.{LineStep}
 use Rattle.reader.specs.declared.number.NumberStep.{NumberStep}
 use Rattle.text.specs.Number.{number}
 use Rattle.text.specs.Line.{space, lineFeed, separator, after, lineOf}
-use Rattle.reader.specs.Places.{numberStep, byteStep, lineStep}
+use Rattle.reader.specs.Tokens.{numberStep, byteStep}
+use Rattle.reader.specs.Lines.{lineStep}
 use Rattle.reader.proofs.bytes.ByteStep as B
 use Rattle.reader.proofs.bytes.ByteStep.Laws as B′
 use Rattle.reader.proofs.line.LineStep as S
@@ -60,7 +61,7 @@ use Rattle.reader.proofs.Walk.{Held, meets}
 use Rattle.reader.proofs.Answers.{a-number, the-byte}
 use Rattle.reader.proofs.Asked.{Text, reader, asks, asks-last, while-holds, breaks-unless, cells, turned, frees-all, rest-of}
 use Rattle.walks.proofs.Elem.{elem-open, elem-close}
-use Rattle.reader.proofs.Lined.{Begun, begins, no-number, no-separator, goes-on, separator-between, separator-last, held, line-is-read, no-line-read, next-held, length-held, length-more}
+use Rattle.reader.proofs.Lines.{Begun, begins, no-number, no-separator, goes-on, separator-between, separator-last, held, line-is-read, no-line-read, next-held, length-held, length-more}
 use Rattle.reader.proofs.text_reader.TextReader.number.Symbol as number-def
 use Rattle.reader.proofs.text_reader.TextReader.number.Met as number-thm
 use Rattle.reader.proofs.text_reader.TextReader.space.Symbol as space-def

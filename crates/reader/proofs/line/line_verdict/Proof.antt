@@ -1,8 +1,8 @@
--- `text::verdict::line_verdict` meets its contract: the shape is tested first, then the rule.
+-- `reader::line::line_verdict` meets its contract: the shape is tested first, then the rule.
 -- Assumes nothing.
 use borrow.Author.Tests.{not-true, not-false}
 use Rattle.graph.specs.Refuse.{verdictIs}
-use Rattle.reader.specs.Places.{lineRefusal}
+use Rattle.reader.specs.Lines.{lineRefusal}
 use Rattle.reader.proofs.line.line_verdict.Statement.{statement}
 use Rattle.reader.proofs.line.line_verdict.Tie as tie
 

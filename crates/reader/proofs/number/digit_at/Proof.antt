@@ -1,4 +1,4 @@
--- `text::number::digit_at` meets its contract: the digit of a text from a place on is that of the byte there.
+-- `reader::number::digit_at` meets its contract: the digit of a text from a place on is that of the byte there.
 -- Assumes nothing.
 use Prim.Native.Nat.{_<_}
 use native.Mathlib.Omega.{arith}
@@ -6,7 +6,7 @@ use borrow.Author.Needs.{needs}
 use borrow.Author.Tests.{le-leb, lt-leb}
 use lib.ListN.{length, drop-of-length-le}
 use lib.Seq.{drop-cons}
-use Rattle.reader.specs.Places.{digitAt}
+use Rattle.reader.specs.Tokens.{digitAt}
 use Rattle.reader.proofs.number.digit_at.Statement.{statement}
 use Rattle.reader.proofs.number.digit_at.Tie as tie
 

@@ -1,12 +1,12 @@
--- `text::number::digits_at` meets its contract: each digit that is read leaves the run's value and what follows it as they were.
+-- `reader::number::digits_at` meets its contract: each digit that is read leaves the run's value and what follows it as they were.
 -- Assumes nothing.
 use mathlib.Core.Path.{_≡_, sym}
 use Prim.Native.Nat.{_-_, _≤_}
 use native.Mathlib.Omega.{arith}
 use lib.ListN.{length, drop}
 use Rattle.text.specs.Number.{mostNumber}
-use Rattle.reader.specs.Places.{numberStep, digitAt}
-use Rattle.reader.proofs.Runs.{RunTo, passed-none, passed-more, passed-limit, passed-all, digit-within}
+use Rattle.reader.specs.Tokens.{numberStep, digitAt}
+use Rattle.reader.proofs.Tokens.{RunTo, passed-none, passed-more, passed-limit, passed-all, digit-within}
 use Rattle.reader.proofs.number.digits_at.Statement.{statement}
 use Rattle.reader.proofs.number.digits_at.Tie as tie
 

@@ -1,12 +1,12 @@
--- `text::number::number_at` meets its contract: after a zero no digit may follow, and any other run of digits is a number where its value fits.
+-- `reader::number::number_at` meets its contract: after a zero no digit may follow, and any other run of digits is a number where its value fits.
 -- Assumes nothing.
 use mathlib.Core.Path.{_≡_, _∙_}
 use native.Mathlib.Omega.{arith}
 use borrow.Author.Needs.{needs}
 use lib.ListN.{drop}
 use lib.Seq.{drop-drop}
-use Rattle.reader.specs.Places.{numberStep, digitAt}
-use Rattle.reader.proofs.Runs.{digit-within, zero-alone, run-is-number}
+use Rattle.reader.specs.Tokens.{numberStep, digitAt}
+use Rattle.reader.proofs.Tokens.{digit-within, zero-alone, run-is-number}
 use Rattle.reader.proofs.number.number_at.Statement.{statement}
 use Rattle.reader.proofs.number.number_at.Tie as tie
 

@@ -1,4 +1,4 @@
--- `text::section::rest_is_skipped` meets its contract: it tests the rest's first byte, if there is one, for each letter in turn.
+-- `reader::section::rest_is_skipped` meets its contract: it tests the rest's first byte, if there is one, for each letter in turn.
 -- Assumes nothing.
 use mathlib.Core.Path.{_≡_, ap}
 use mathlib.Core.Bool.{or-false}

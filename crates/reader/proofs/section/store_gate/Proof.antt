@@ -1,4 +1,4 @@
--- `text::section::store_gate` meets its contract: the two stores lay the gate's words, and the test says which literal is the larger.
+-- `reader::section::store_gate` meets its contract: the two stores lay the gate's words, and the test says which literal is the larger.
 -- Assumes nothing.
 use native.Mathlib.Omega.{arith}
 use borrow.Author.Needs.{needs}

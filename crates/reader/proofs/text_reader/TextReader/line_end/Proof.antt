@@ -1,4 +1,4 @@
--- `text::reader::TextReader::line_end` meets its contract: it is thin over `line_end_at` (`Thin.antt`).
+-- `reader::text_reader::TextReader::line_end` meets its contract: it is thin over `line_end_at` (`Thin.antt`).
 -- Assumes nothing.
 use Rattle.text.specs.Line.{lineFeed}
 use Rattle.reader.proofs.Answers.{the-byte}

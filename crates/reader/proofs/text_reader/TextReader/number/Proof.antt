@@ -1,4 +1,4 @@
--- `text::reader::TextReader::number` meets its contract: it is thin over `number_at` (`Thin.antt`).
+-- `reader::text_reader::TextReader::number` meets its contract: it is thin over `number_at` (`Thin.antt`).
 -- Assumes nothing.
 use Rattle.reader.proofs.Answers.{a-number}
 use Rattle.reader.proofs.Thin.{thin-meets}

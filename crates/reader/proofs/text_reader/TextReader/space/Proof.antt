@@ -1,4 +1,4 @@
--- `text::reader::TextReader::space` meets its contract: it is thin over `space_at` (`Thin.antt`).
+-- `reader::text_reader::TextReader::space` meets its contract: it is thin over `space_at` (`Thin.antt`).
 -- Assumes nothing.
 use Rattle.text.specs.Line.{space}
 use Rattle.reader.proofs.Answers.{the-byte}

@@ -1,4 +1,4 @@
--- A line that is read number by number: what is read of it, and what is left.
+-- Lines. A line is read number by number: what is read of it, and what is left. The first line is `aag` and a space before one.
 -- Assumes nothing.
 use mathlib.Core.Path.{_≡_, refl, sym, ap, _∙_}
 use mathlib.Core.Bool.{true, false, cond}
@@ -12,11 +12,15 @@ use lib.Dec.{eqb}
 use lib.ListN.{length, getD, set, drop, length-append, length-drop, drop-of-length-le}
 use lib.Seq.{drop-cons, set-append-seam}
 use Rattle.reader.specs.declared.bytes.ByteStep.{ByteStep}
+use Rattle.reader.specs.declared.header.HeaderLine.{HeaderLine}
 use Rattle.reader.specs.declared.line.LineStep.{LineStep}
 use Rattle.reader.specs.declared.number.NumberStep.{NumberStep}
 use Rattle.text.specs.Number.{Front, front, number}
 use Rattle.text.specs.Line.{_>>=_, space, lineFeed, separator, after, lineOf}
-use Rattle.reader.specs.Places.{numberStep, byteStep, lineStep}
+use Rattle.text.specs.States.{aag}
+use Rattle.text.specs.Reading.{headerLine}
+use Rattle.reader.specs.Tokens.{numberStep, byteStep}
+use Rattle.reader.specs.Lines.{lineStep, headerStep}
 
 pub separator-between : (n : ℕ) → 0 < n → separator n ≡ space
 unfolding separator
@@ -108,3 +112,18 @@ all-picked (suc n) k ns e = drop-cons ns k 0 (omega arith) ∙ ap (λ (ms : List
 pub line-picked : (t ns : List ℕ) (s : LineStep) (n : ℕ) → length ns ≡ n → cond (s .found) (some (front (picked 0 n ns) (drop (s .next) t))) none ≡ lineStep t ns s
 unfolding lineStep
 line-picked t ns s n e = ap (λ (ms : List ℕ). cond (s .found) (some (front ms (drop (s .next) t))) none) (sym (all-picked n 0 ns (omega arith)))
+
+-- ---- the first line
+
+pub no-header-found : (t : List ℕ) (s : HeaderLine) → s .found ≡ false → headerStep t s ≡ none
+unfolding headerStep
+no-header-found t s e = rw e
+
+module _ (t : List ℕ) (s : ByteStep) (is : byteStep t s ≡ after aag t) where
+  pub header-stops : s .found ≡ false → headerLine t ≡ none
+  unfolding byteStep headerLine
+  header-stops e = rw (sym is, e)
+
+  pub header-goes-on : s .found ≡ true → headerLine t ≡ lineOf 5 (drop (s .next) t)
+  unfolding byteStep headerLine
+  header-goes-on e = rw (sym is, e)

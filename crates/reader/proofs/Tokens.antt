@@ -1,10 +1,11 @@
--- Runs of digits, read digit by digit: what each digit does to the value of a run, and how a run ends.
+-- Numbers and bytes. A run of digits is read digit by digit: what each digit does to the value of a run, and how a run ends.
+-- Bytes are read one after the other: each is there, or the reading stops.
 -- Assumes nothing.
 use mathlib.Core.Path.{_≡_, refl, sym, ap, _∙_}
-use mathlib.Core.Bool.{true, false, cond}
+use mathlib.Core.Bool.{Bool, true, false, cond}
 use mathlib.Core.List.{List, [], _∷_}
 use mathlib.Core.Logic.{_⊎_, inl, inr, ⊎-elim}
-use mathlib.Core.Option.{none, some}
+use mathlib.Core.Option.{Option, none, some}
 use Prim.Native.Nat.{ℕ, _+_, _-_, _*_, _≤_, _<_}
 use native.Mathlib.Nat.{le-refl}
 use native.Mathlib.Omega.{arith}
@@ -13,8 +14,10 @@ use lib.Dec.{leb, ltb, eqb}
 use lib.ListN.{length, drop, length-drop}
 use lib.Seq.{drop-drop}
 use Rattle.graph.proofs.Lists.{true-or-false, same-tests}
+use Rattle.reader.specs.declared.bytes.ByteStep.{ByteStep}
 use Rattle.text.specs.Number.{digit, isDigit, Front, front, digitRun, valueFrom, noLeadingZero, mostNumber, isNumber, number}
-use Rattle.reader.specs.Places.{digitAt, runValue}
+use Rattle.text.specs.Line.{_>>=_, after}
+use Rattle.reader.specs.Tokens.{byteStep, digitAt, runValue}
 use Rattle.text.proofs.Number.{digit-least, digit-most}
 
 -- the digits at the front of a text, and the text that follows them
@@ -137,3 +140,31 @@ run-is-number t h = ⊎-elim
     rw (run-value-is t e, number-is t e, lt-ltb 0 (length (digit (digitAt t) ∷ run (drop 1 t))) (omega arith), leads (digit (digitAt t)) (run (drop 1 t)) (λ q. absurd (h (omega arith)))))
     (λ (o : Over t). rw (run-value-is t (o .runs), number-is t (o .runs)))
     (first t)
+
+-- ---- bytes, one after the other
+
+-- something that was found or not, and a step from it
+found-bind : {A B : Type 0} (f : Bool) (x : A) (k : A → Option B) → (cond f (some x) none >>= k) ≡ cond f (k x) none
+found-bind true x k = refl
+found-bind false x k = refl
+
+after-more : (b c : ℕ) (bs t : List ℕ) → after (b ∷ c ∷ bs) t ≡ (after (b ∷ []) t >>= after (c ∷ bs))
+unfolding after
+after-more b c bs [] = refl
+after-more b c bs (x ∷ t) = by-test (eqb b x)
+  where
+    by-test : (e : Bool) → cond e (after (c ∷ bs) t) none ≡ (cond e (some t) none >>= after (c ∷ bs))
+    by-test e = sym (found-bind e t (after (c ∷ bs)))
+
+module _ (t u : List ℕ) (s : ByteStep) (b c : ℕ) (bs : List ℕ) (is : byteStep t s ≡ after (b ∷ []) u) where
+  pub bytes-stop : s .found ≡ false → after (b ∷ c ∷ bs) u ≡ none
+  unfolding byteStep
+  bytes-stop e = after-more b c bs u ∙ rw (sym is, e)
+
+  pub bytes-go-on : s .found ≡ true → after (b ∷ c ∷ bs) u ≡ after (c ∷ bs) (drop (s .next) t)
+  unfolding byteStep
+  bytes-go-on e = after-more b c bs u ∙ rw (sym is, e)
+
+pub no-byte-found : (t : List ℕ) (s : ByteStep) → s .found ≡ false → byteStep t s ≡ none
+unfolding byteStep
+no-byte-found t s e = rw e
