@@ -36,7 +36,8 @@ use denote.Triple.Walked.{says, Stays, stay-dropped, walkOf, goes-dropped, ends-
 use denote.Exit.{yes}
 use Rattle.reader.specs.declared.text_reader.TextReader.{TextReader}
 use Rattle.reader.proofs.text_reader.TextReader.Laws as T′
-use Rattle.reader.proofs.Walk.{Answer, reader-row, reader-type, reader-laws, held-ended, held-clauses, plain-ended, plain-clauses, Held, Plain, ends, meets, stands}
+use Rattle.reader.proofs.Walk.{Answer, reader-row, reader-type, reader-laws, held-ended, held-clauses, plain-ended, plain-clauses, Held, Plain, ends}
+use Rattle.walks.proofs.Meets.{meets, stands}
 
 abbrev thin-fn : Name → Ty → Fn
 thin-fn callee τ = record {

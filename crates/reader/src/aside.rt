@@ -1,6 +1,6 @@
 // A text read into words kept aside.
 ghost use mathlib.Core.Path.{_≡_};
-ghost use Prim.Native.Nat.{_*_, _≤_};
+ghost use Prim.Native.Nat.{_*_};
 ghost use lib.ListN.{length, drop};
 ghost use Rattle.graph.specs.Graph.{mostOutputs, mostGates};
 ghost use Rattle.graph.specs.Lent.{buffersOf};

@@ -1,1 +1,5 @@
 pub mod Elem
+pub mod Tests
+pub mod Locals
+pub mod Rest
+pub mod Meets

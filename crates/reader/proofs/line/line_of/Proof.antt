@@ -57,10 +57,14 @@ use Rattle.reader.proofs.line.LineStep.Laws as S′
 use Rattle.reader.proofs.number.NumberStep as N
 use Rattle.reader.proofs.number.NumberStep.Laws as N′
 use Rattle.reader.proofs.text_reader.TextReader.Laws as T′
-use Rattle.reader.proofs.Walk.{Held, meets}
+use Rattle.reader.proofs.Walk.{Held}
 use Rattle.reader.proofs.Answers.{a-number, the-byte}
-use Rattle.reader.proofs.Asked.{Text, reader, asks, asks-last, while-holds, breaks-unless, cells, turned, frees-all, rest-of}
+use Rattle.reader.proofs.Asked.{Text, reader, asks, asks-last}
 use Rattle.walks.proofs.Elem.{elem-open, elem-close}
+use Rattle.walks.proofs.Tests.{while-holds, breaks-unless}
+use Rattle.walks.proofs.Locals.{cells, reversed, frees-all}
+use Rattle.walks.proofs.Rest.{rest-of}
+use Rattle.walks.proofs.Meets.{meets}
 use Rattle.reader.proofs.Lines.{Begun, begins, no-number, no-separator, goes-on, separator-between, separator-last, held, line-is-read, no-line-read, next-held, length-held, length-more}
 use Rattle.reader.proofs.text_reader.TextReader.number.Symbol as number-def
 use Rattle.reader.proofs.text_reader.TextReader.number.Met as number-thm
@@ -281,7 +285,7 @@ module _ {M : Type 1} (𝓤 : URA M) (H : Heap 𝓤) (A : Atoms 𝓤) (W : Given
           (line-is-read text (t .l) ys (t .k) (t .pos) (t .begun) (omega (arith, t .room)) (omega (arith, t .room)))))
 
       -- the loop is reached with the locals as they were allocated, the last one first
-      starts : Sq W (turned (cells En (none ∷ some v ∷ some (vint w64 at) ∷ some w ∷ some (T′.lowered (reader x at)) ∷ some (vint w64 0) ∷ [])) (Text κ x ∷ ‵ (flft κ q) ∷ Numbers ys ∷ ‵ (flft κ₂ q₂) ∷ [])) (runs C Λ En Mir.t-3 (atRet En Post′))
+      starts : Sq W (reversed (cells En (none ∷ some v ∷ some (vint w64 at) ∷ some w ∷ some (T′.lowered (reader x at)) ∷ some (vint w64 0) ∷ [])) (Text κ x ∷ ‵ (flft κ q) ∷ Numbers ys ∷ ‵ (flft κ₂ q₂) ∷ [])) (runs C Λ En Mir.t-3 (atRet En Post′))
       starts =
           keep ! (38 ∷ 39 ∷ 40 ∷ 41 ∷ 36 ∷ 37 ∷ 34 ∷ 35 ∷ 32 ∷ 33 ∷ 30 ∷ 31 ∷ 28 ∷ 29 ∷ 26 ∷ 27 ∷ 24 ∷ 25 ∷ 22 ∷ 23 ∷ 20 ∷ 21 ∷ 18 ∷ 19 ∷ 16 ∷ 17 ∷ 14 ∷ 15 ∷ 12 ∷ 13 ∷ 10 ∷ 11 ∷ 8 ∷ 9 ∷ 6 ∷ 7 ∷ 4 ∷ 5 ∷ 2 ∷ 3 ∷ 0 ∷ 1 ∷ []) $
           first ! $ blocks ! $ loops ! 𝓣 Nearer Nearer-wf Inv turns (record { k = 0; pos = at; l = []; long = refl; room = omega arith; pos-fits = at-fits; begun = begins text size at (size - 0) (omega arith) })
