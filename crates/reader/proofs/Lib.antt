@@ -4,6 +4,7 @@ pub mod Thin
 pub mod Asked
 pub mod Tokens
 pub mod Lines
+pub mod LineWalk
 pub mod FirstLine
 pub mod Sections
 pub mod BySection

@@ -73,14 +73,19 @@ module _ {whole : Option (Front (List ℕ))} {t ns : List ℕ} {m next : ℕ} (b
 abbrev pub held : ℕ → List ℕ → List ℕ → List ℕ
 held k ns ys = ns ++ drop k ys
 
+-- what is answered where so many are lent, k are read, and the reader stands at a place
+abbrev pub answer : ℕ → ℕ → ℕ → LineStep
+answer size k next = record { found = eqb k size; next = next }
+
 module _ (t ns ys : List ℕ) (k next : ℕ) {whole : Option (Front (List ℕ))} where
-  pub line-is-read : {m : ℕ} → Begun whole t ns m next → m ≡ 0 → k ≡ length ys → lineStep t (held k ns ys) (record { found = eqb k (length ys); next = next }) ≡ whole
+  pub line-is-read : {m : ℕ} → Begun whole t ns m next → m ≡ 0 → k ≡ length ys
+      → lineStep t (held k ns ys) (answer (length ys) k next) ≡ whole
   unfolding lineStep
   line-is-read b z e =
       let past : length ys ≤ k = omega arith in
       rw (eq-eqb k (length ys) e, drop-of-length-le ys past, append-nil ns) (sym (all-read b z))
 
-  pub no-line-read : whole ≡ none → k < length ys → lineStep t (held k ns ys) (record { found = eqb k (length ys); next = next }) ≡ whole
+  pub no-line-read : whole ≡ none → k < length ys → lineStep t (held k ns ys) (answer (length ys) k next) ≡ whole
   unfolding lineStep
   no-line-read e h = rw (ne-eqb k (length ys) (λ q. absurd (omega arith))) (sym e)
 
@@ -109,9 +114,11 @@ all-picked : (n k : ℕ) (ns : List ℕ) → length ns ≡ k + n → drop k ns �
 all-picked zero k ns e = let past : length ns ≤ k = omega arith in drop-of-length-le ns past
 all-picked (suc n) k ns e = drop-cons ns k 0 (omega arith) ∙ ap (λ (ms : List ℕ). getD ns k 0 ∷ ms) (all-picked n (suc k) ns (omega arith))
 
-pub line-picked : (t ns : List ℕ) (s : LineStep) (n : ℕ) → length ns ≡ n → cond (s .found) (some (front (picked 0 n ns) (drop (s .next) t))) none ≡ lineStep t ns s
+pub line-picked : (t ns : List ℕ) (s : LineStep) (n : ℕ) → length ns ≡ n
+    → cond (s .found) (some (front (picked 0 n ns) (drop (s .next) t))) none ≡ lineStep t ns s
 unfolding lineStep
-line-picked t ns s n e = ap (λ (ms : List ℕ). cond (s .found) (some (front ms (drop (s .next) t))) none) (sym (all-picked n 0 ns (omega arith)))
+line-picked t ns s n e =
+    ap (λ (ms : List ℕ). cond (s .found) (some (front ms (drop (s .next) t))) none) (sym (all-picked n 0 ns (omega arith)))
 
 -- ---- the first line
 

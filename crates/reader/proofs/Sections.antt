@@ -35,6 +35,14 @@ with-both vs ws (wrong r) = refl
 with-both vs ws (words us t) = ap (λ (zs : List ℕ). words zs t) (sym (append-assoc vs ws us))
 
 module _ (f : List ℕ → List ℕ) where
+  -- the words of a line that keeps its rule or not, and of the lines after it
+  abbrev pub by-rule : List Needed → Front (List ℕ) → Bool → Words
+  by-rule needs y b = elim b [ true ↦ withWords (f (y .got)) (readWords f needs (y .rest)) | false ↦ wrong BadLiteral ]
+
+  -- the same, where the line is misshapen or not
+  abbrev pub by-line : Needed → List Needed → Option (Front (List ℕ)) → Words
+  by-line need needs o = elim o [ none ↦ wrong BadLine | some y ↦ by-rule needs y (need .rule (y .got)) ]
+
   -- what more lines give, from where the words end
   thenMore : List Needed → Words → Words
   thenMore needs (wrong r) = wrong r
@@ -50,17 +58,15 @@ module _ (f : List ℕ → List ℕ) where
   read-append [] ys t = sym (with-no-words (readWords f ys t))
   read-append (x ∷ xs) ys t = go (lineOf (x .numbers) t) (read-append xs ys)
     where
-      by-rule : (b : Bool) (y : Front (List ℕ)) → readWords f (xs ++ ys) (y .rest) ≡ thenMore ys (readWords f xs (y .rest))
-          → elim b [ true ↦ withWords (f (y .got)) (readWords f (xs ++ ys) (y .rest)) | false ↦ wrong BadLiteral ]
-          ≡ thenMore ys (elim b [ true ↦ withWords (f (y .got)) (readWords f xs (y .rest)) | false ↦ wrong BadLiteral ])
-      by-rule true y e = ap (withWords (f (y .got))) e ∙ with-more (f (y .got)) ys (readWords f xs (y .rest))
-      by-rule false y e = refl
+      ruled : (b : Bool) (y : Front (List ℕ)) → readWords f (xs ++ ys) (y .rest) ≡ thenMore ys (readWords f xs (y .rest))
+          → by-rule (xs ++ ys) y b ≡ thenMore ys (by-rule xs y b)
+      ruled true y e = ap (withWords (f (y .got))) e ∙ with-more (f (y .got)) ys (readWords f xs (y .rest))
+      ruled false y e = refl
 
       go : (o : Option (Front (List ℕ))) → ((u : List ℕ) → readWords f (xs ++ ys) u ≡ thenMore ys (readWords f xs u))
-          → elim o [ none ↦ wrong BadLine | some y ↦ elim (x .rule (y .got)) [ true ↦ withWords (f (y .got)) (readWords f (xs ++ ys) (y .rest)) | false ↦ wrong BadLiteral ] ]
-          ≡ thenMore ys (elim o [ none ↦ wrong BadLine | some y ↦ elim (x .rule (y .got)) [ true ↦ withWords (f (y .got)) (readWords f xs (y .rest)) | false ↦ wrong BadLiteral ] ])
+          → by-line x (xs ++ ys) o ≡ thenMore ys (by-line x xs o)
       go none below = refl
-      go (some y) below = by-rule (x .rule (y .got)) y (below (y .rest))
+      go (some y) below = ruled (x .rule (y .got)) y (below (y .rest))
 
   -- ---- the first k of a section's lines
 
@@ -79,11 +85,17 @@ module _ (f : List ℕ → List ℕ) where
     unfolding gather thenMore
     one-more k ws u e = read-append (singles need k) (need k ∷ []) t ∙ ap (thenMore (need k ∷ [])) e
 
+  -- a line's words, unless it is refused
+  abbrev unless : Front (List ℕ) → Option Refusal → Words
+  unless x refusal = elim refusal [ none ↦ words (f (x .got)) (x .rest) | some r ↦ wrong r ]
+
   -- one line, misshapen or not, with its rule kept or not
-  one-line : (need : Needed) (u : List ℕ) (found kept : Bool) (x : Front (List ℕ)) → cond found (some x) none ≡ lineOf (need .numbers) u → kept ≡ need .rule (x .got)
-      → readWords f (need ∷ []) u ≡ elim (lineRefusal found kept) [ none ↦ words (f (x .got)) (x .rest) | some r ↦ wrong r ]
+  one-line : (need : Needed) (u : List ℕ) (found kept : Bool) (x : Front (List ℕ))
+      → cond found (some x) none ≡ lineOf (need .numbers) u → kept ≡ need .rule (x .got)
+      → readWords f (need ∷ []) u ≡ unless x (lineRefusal found kept)
   unfolding readWords withWords lineRefusal
-  one-line need u true true x line rule = rw (sym line, sym rule, readWords) (ap (λ (vs : List ℕ). words vs (x .rest)) (append-nil (f (x .got))))
+  one-line need u true true x line rule =
+      rw (sym line, sym rule, readWords) (ap (λ (vs : List ℕ). words vs (x .rest)) (append-nil (f (x .got))))
   one-line need u true false x line rule = rw (sym line, sym rule, readWords)
   one-line need u false kept x line rule = rw (sym line, readWords)
 
@@ -99,7 +111,7 @@ none-so-far = record { is = refl }
 module _ {f : List ℕ → List ℕ} {need : ℕ → Needed} {t : List ℕ} {k : ℕ} {ws here : List ℕ} (so-far : SoFar f need t k ws here)
     (found : Bool) {kept : Bool} (x : Front (List ℕ))
     (line : cond found (some x) none ≡ lineOf ((need k) .numbers) here) (rule : kept ≡ (need k) .rule (x .got)) where
-  with-line : readWords f (singles need (suc k)) t ≡ withWords ws (elim (lineRefusal found kept) [ none ↦ words (f (x .got)) (x .rest) | some r ↦ wrong r ])
+  with-line : readWords f (singles need (suc k)) t ≡ withWords ws (unless f x (lineRefusal found kept))
   with-line = one-more f need t k ws here (so-far .is) ∙ ap (withWords ws) (one-line f (need k) here found kept x line rule)
 
   pub line-refused : {n : ℕ} {v : Verdict} {r : Refusal} → verdictIs v ≡ lineRefusal found kept → v ≡ Verdict.Refused r → k < n
@@ -107,6 +119,7 @@ module _ {f : List ℕ → List ℕ} {need : ℕ → Needed} {t : List ℕ} {k :
   unfolding withWords verdictIs
   line-refused {n} {v} {r} judged e h = wrong-stays f need t (suc k) n r h (rw (sym judged, e) at with-line)
 
-  pub line-fine : {v : Verdict} → verdictIs v ≡ lineRefusal found kept → v ≡ Verdict.Fine → SoFar f need t (k + 1) (ws ++ f (x .got)) (x .rest)
+  pub line-fine : {v : Verdict} → verdictIs v ≡ lineRefusal found kept → v ≡ Verdict.Fine
+      → SoFar f need t (k + 1) (ws ++ f (x .got)) (x .rest)
   unfolding withWords verdictIs
   line-fine judged e = record { is = rw add-one (rw (sym judged, e) at with-line) }

@@ -47,7 +47,12 @@ first (b ∷ t) = ⊎-elim
     let m = digit-most b e in
     let d : digitAt (b ∷ t) ≡ b - 48 = rw e in
     let s : digit (digitAt (b ∷ t)) ≡ b = omega arith in
-    inl (record { small = omega arith; there = omega arith; runs = λ q. rw s (rw (e, digitRun) (ap (λ (r : Front (List ℕ)). front (b ∷ r .got) (r .rest)) q)) }))
+    inl
+    (record {
+      small = omega arith;
+      there = omega arith;
+      runs = λ q. rw s (rw (e, digitRun) (ap (λ (r : Front (List ℕ)). front (b ∷ r .got) (r .rest)) q));
+    }))
     (λ (e : isDigit b ≡ false). inr (record { none-there = rw e; runs = rw (e, digitRun) }))
     (true-or-false (isDigit b))
 
@@ -89,18 +94,26 @@ module _ (t : List ℕ) (at : ℕ) where
     pub passed-more : (d : ℕ) → d ≡ digitAt (drop next t) → d < 10 → RunTo t at (next + 1) (10 * value + d)
     unfolding valueFrom
     passed-more d q h =
-        let e : digitRun (drop next t) ≡ front (digit d ∷ run (drop (next + 1) t)) (rest (drop (next + 1) t)) = rw (q, ← drop-drop 1 next t) (taken (drop next t) (omega arith) .runs refl) in
+        let u = drop (next + 1) t in
+        let e : digitRun (drop next t) ≡ front (digit d ∷ run u) (rest u) =
+        rw (q, ← drop-drop 1 next t) (taken (drop next t) (omega arith) .runs refl) in
         record {
           count = omega (arith, ap (λ (r : Front (List ℕ)). length (r .got)) e);
-          same = p .same ∙ ap (λ (r : Front (List ℕ)). valueFrom value (r .got)) e ∙ ap (λ (x : ℕ). valueFrom (10 * value + x) (run (drop (next + 1) t))) (omega arith);
+          same =
+              p .same
+              ∙ ap (λ (r : Front (List ℕ)). valueFrom value (r .got)) e
+              ∙ ap (λ (x : ℕ). valueFrom (10 * value + x) (run u)) (omega arith);
           follows = p .follows ∙ ap (λ (r : Front (List ℕ)). r .rest) e;
         }
 
     -- a value past the limit stays past it
     pub passed-limit : mostNumber < value → runValue (drop at t) ≡ none
-    passed-limit h = run-value-is (drop at t) refl ∙ rw (lt-leb (valueFrom 0 (run (drop at t))) mostNumber (omega (arith, value-grows value (run (drop next t)))))
+    passed-limit h =
+        run-value-is (drop at t) refl
+        ∙ rw (lt-leb (valueFrom 0 (run (drop at t))) mostNumber (omega (arith, value-grows value (run (drop next t)))))
 
-    pub passed-all : 10 ≤ digitAt (drop next t) → value ≤ mostNumber → cond (ltb at next) (some (front value (drop next t))) none ≡ runValue (drop at t)
+    pub passed-all : 10 ≤ digitAt (drop next t) → value ≤ mostNumber
+        → cond (ltb at next) (some (front value (drop next t))) none ≡ runValue (drop at t)
     unfolding valueFrom
     passed-all h l =
         let e = over (drop next t) h .runs in
@@ -123,7 +136,8 @@ unfolding isNumber noLeadingZero valueFrom
 zero-alone t h =
     let z = taken t (omega arith) in
     ⊎-elim
-    (λ (x : Taken (drop 1 t)). rw (number-is t (rw h at (z .runs (x .runs refl))), ne-eqb (digitAt (drop 1 t)) 10 (λ e. absurd (omega arith))))
+    (λ (x : Taken (drop 1 t)).
+    rw (number-is t (rw h at (z .runs (x .runs refl))), ne-eqb (digitAt (drop 1 t)) 10 (λ e. absurd (omega arith))))
     (λ (o : Over (drop 1 t)). rw (number-is t (rw h at (z .runs (o .runs))), o .none-there))
     (first (drop 1 t))
 
@@ -137,7 +151,10 @@ unfolding isNumber
 run-is-number t h = ⊎-elim
     (λ (x : Taken t).
     let e = x .runs refl in
-    rw (run-value-is t e, number-is t e, lt-ltb 0 (length (digit (digitAt t) ∷ run (drop 1 t))) (omega arith), leads (digit (digitAt t)) (run (drop 1 t)) (λ q. absurd (h (omega arith)))))
+    let b = digit (digitAt t) in
+    let bs = run (drop 1 t) in
+    let one = lt-ltb 0 (length (b ∷ bs)) (omega arith) in
+    rw (run-value-is t e, number-is t e, one, leads b bs (λ q. absurd (h (omega arith)))))
     (λ (o : Over t). rw (run-value-is t (o .runs), number-is t (o .runs)))
     (first t)
 

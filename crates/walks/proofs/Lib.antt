@@ -3,3 +3,4 @@ pub mod Tests
 pub mod Locals
 pub mod Rest
 pub mod Meets
+pub mod Assign

@@ -13,11 +13,27 @@ use Rattle.reader.proofs.KeptAside.{Aside, aside-refused, aside-few, fe
 use Rattle.reader.proofs.read.Statement.{statement}
 use Rattle.reader.proofs.read.Tie as tie
 
+-- ---- the places that the words pass: read aside, the counts known, room in both lists, the gates copied
+
 abbrev start : tie.After-read-aside → tie.Start
 start p = p .before .before .before .before .before .before
 
 abbrev lent : tie.After-read-aside → Buffers
 lent p = buffersOf (now (start p .args .gates)) (now (start p .args .outputs))
+
+abbrev read-at : tie.After-inputs → tie.After-read-aside
+read-at g = g .before .before .before .before
+
+abbrev counted-at : tie.Else2 → tie.After-inputs
+counted-at f = f .before .before .before
+
+abbrev room-at : tie.After-copy-words-arg → tie.Else2
+room-at c = c .before .before
+
+abbrev copied-at : tie.After-copy-words-arg2 → tie.After-copy-words
+copied-at c = c .before .before .before .before
+
+-- ---- what is known there
 
 aside : (p : tie.After-read-aside)
     → Aside (now (start p .args .text)) (p .read-aside .last .1 .0) (p .read-aside .last .1 .1 .0) (p .read-aside .result)
@@ -28,12 +44,10 @@ aside p = record {
   counted = p .read-aside .ensures .1;
 }
 
--- where the words were read, once the counts are known
-abbrev read-at : tie.After-inputs → tie.After-read-aside
-read-at g = g .before .before .before .before
-
 few : (g : tie.After-inputs) → (g .inputs .given .0 .1 .0 ≤ mostGates) × (g .inputs .given .0 .1 .1 .0 ≤ mostOutputs)
 few g = aside-few (aside (read-at g)) (g .inputs .given .1)
+
+-- ---- the needs
 
 slice-aggregate-read-aside : tie.Need-slice-aggregate-read-aside
 slice-aggregate-read-aside c = search needs
@@ -71,16 +85,16 @@ mul-copy-words c = search needs
 
 copy-words-requires : tie.Need-copy-words-requires
 copy-words-requires c κs =
-    let g = c .before .before .before .before .before in
-    (omega (arith, few g, aside (read-at g)), c .before .before .before .if1 .left)
+    let g = counted-at (room-at c) in
+    (omega (arith, few g, aside (read-at g)), room-at c .before .if1 .left)
 
 slice-aggregate-copy-words-2 : tie.Need-slice-aggregate-copy-words-2
 slice-aggregate-copy-words-2 c = search needs
 
 copy-words-requires-2 : tie.Need-copy-words-requires-2
 copy-words-requires-2 c κs =
-    let f = c .before .before .before .before .before .before .before in
-    let g = f .before .before .before in
+    let f = room-at (copied-at c .before) in
+    let g = counted-at f in
     (omega (arith, few g, aside (read-at g)), f .if2 .left)
 
 returns-3 : tie.Need-returns-3
@@ -98,11 +112,12 @@ returns-4 : tie.Need-returns-4
 unfolding storedIn
 returns-4 c =
     let o = c .before .before in
-    let m = o .before .before .before .before .before in
-    let f = m .before .before .before in
-    let g = f .before .before .before in
+    let m = copied-at (o .before) in
+    let f = room-at (m .before) in
+    let g = counted-at f in
     let n = g .inputs .given .0 in
-    ap₂ (λ (gs os : List ℕ). ReadText.Graph (n .0) (n .1 .0) (n .1 .1 .0) leaving buffersOf gs os) (m .copy-words .ensures) (o .copy-words2 .ensures)
+    ap₂ (λ (gs os : List ℕ). ReadText.Graph (n .0) (n .1 .0) (n .1 .1 .0) leaving buffersOf gs os)
+    (m .copy-words .ensures) (o .copy-words2 .ensures)
     ∙ room-enough (aside (read-at g)) (g .inputs .given .1) (lent (read-at g)) (f .before .if1 .left) (f .if2 .left)
 
 pub read-spec : {M : Type 1} → statement M

@@ -22,7 +22,11 @@ abbrev found : tie.After-header-verdict → tie.After-header-line
 found v = v .before .before .before .before
 
 judged : (v : tie.After-header-verdict) → Judged (textOf (found v)) (found v .header-line .result) (v .header-verdict .result)
-judged v = record { line = found v .header-line .ensures; found = not-false _ (v .before .before .if1 .left); verdict = v .header-verdict .ensures }
+judged v = record {
+  line = found v .header-line .ensures;
+  found = not-false _ (v .before .before .if1 .left);
+  verdict = v .header-verdict .ensures;
+}
 
 header-line-requires : tie.Need-header-line-requires
 header-line-requires c κs = search needs

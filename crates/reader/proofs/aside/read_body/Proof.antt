@@ -116,7 +116,8 @@ returns c =
     let b = before-gates (gates-at g) in
     let a = before-outputs (outputs-at b) in
     let p = inputs-at a in
-    (sym (rest-wrong (header p) (body p) (inputs-end a) (outputs-end b) (gates-end g) (sym (c .before .rest-is-skipped .ensures) ∙ not-true _ (c .if1 .taken))), none-counted)
+    let not-skipped = sym (c .before .rest-is-skipped .ensures) ∙ not-true _ (c .if1 .taken) in
+    (sym (rest-wrong (header p) (body p) (inputs-end a) (outputs-end b) (gates-end g) not-skipped), none-counted)
 
 cast-t25 : tie.Need-cast-t25
 cast-t25 c = search needs
@@ -131,7 +132,8 @@ returns-2 : tie.Need-returns-2
 unfolding readingOf sectionWords
 returns-2 c =
     let p = c .before .before .before in
-    (sym (inputs-wrong (header p) (body p) (sym (p .read-inputs .ensures) ∙ ap (sectionWords _ _) (c .before .refusal .given .1))), none-counted)
+    let wrong = sym (p .read-inputs .ensures) ∙ ap (sectionWords _ _) (c .before .refusal .given .1) in
+    (sym (inputs-wrong (header p) (body p) wrong), none-counted)
 
 same-length-3 : tie.Need-same-length-3
 same-length-3 c = search needs
@@ -142,7 +144,8 @@ returns-3 c =
     let o = c .before .before .before .before .before in
     let a = before-outputs o in
     let p = inputs-at a in
-    (sym (outputs-wrong (header p) (body p) (inputs-end a) (sym (o .read-outputs .ensures) ∙ ap (sectionWords _ _) (c .before .refusal2 .given .1))), none-counted)
+    let wrong = sym (o .read-outputs .ensures) ∙ ap (sectionWords _ _) (c .before .refusal2 .given .1) in
+    (sym (outputs-wrong (header p) (body p) (inputs-end a) wrong), none-counted)
 
 same-length-4 : tie.Need-same-length-4
 same-length-4 c = search needs
@@ -157,7 +160,8 @@ returns-4 c =
     let b = before-gates m in
     let a = before-outputs (outputs-at b) in
     let p = inputs-at a in
-    (sym (gates-wrong (header p) (body p) (inputs-end a) (outputs-end b) (sym (m .read-gates .ensures) ∙ ap (sectionWords _ _) (c .before .refusal3 .given .1))), none-counted)
+    let wrong = sym (m .read-gates .ensures) ∙ ap (sectionWords _ _) (c .before .refusal3 .given .1) in
+    (sym (gates-wrong (header p) (body p) (inputs-end a) (outputs-end b) wrong), none-counted)
 
 same-length-6 : tie.Need-same-length-6
 same-length-6 c = search needs
@@ -173,8 +177,9 @@ returns-5 c =
     let b = before-gates (gates-at g) in
     let a = before-outputs (outputs-at b) in
     let p = inputs-at a in
+    let skips = sym (t .before .rest-is-skipped .ensures) ∙ not-false _ (t .if1 .left) in
     let limits = start p .pre .0 in (
-      sym (all-right (header p) (body p) (inputs-end a) (outputs-end b) (gates-end g) (sym (t .before .rest-is-skipped .ensures) ∙ not-false _ (t .if1 .left))),
+      sym (all-right (header p) (body p) (inputs-end a) (outputs-end b) (gates-end g) skips),
       counts (limits .inputs-few) (limits .gates-few) (limits .outputs-few),
     )
 

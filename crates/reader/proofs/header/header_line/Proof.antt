@@ -16,7 +16,8 @@ no-header-line-requires c κs = search needs
 
 returns : tie.Need-returns
 returns c =
-    no-header-found _ _ (c .no-header-line .ensures) ∙ sym (header-stops _ _ (c .before .before .before .aag-at-front .ensures) (not-true _ (c .before .if1 .taken)))
+    no-header-found _ _ (c .no-header-line .ensures)
+    ∙ sym (header-stops _ _ (c .before .before .before .aag-at-front .ensures) (not-true _ (c .before .if1 .taken)))
 
 slice-aggregate-line-of : tie.Need-slice-aggregate-line-of
 slice-aggregate-line-of c = search needs

@@ -19,7 +19,8 @@ use Rattle.reader.proofs.header.header_verdict.Statement.{statement}
 use Rattle.reader.proofs.header.header_verdict.Tie as tie
 
 module _ (t : List ℕ) (h : Header) where
-  large : ((mostInputs < h .inputs ⊎ mostOutputs < h .outputs) ⊎ mostGates < h .gates) ⊎ mostBytes < length t → firstRefusal (headerRefusals t h) ≡ some TooLarge
+  large : ((mostInputs < h .inputs ⊎ mostOutputs < h .outputs) ⊎ mostGates < h .gates) ⊎ mostBytes < length t
+      → firstRefusal (headerRefusals t h) ≡ some TooLarge
   unfolding headerRefusals firstRefusal
   large s = rw (large-iff t h .1 s)
 

@@ -16,6 +16,9 @@ Inv-loop text at value₀ next₀ digit₀ value next digit = RunTo text at next
 abbrev μ-loop : tie.MeasureT-loop
 μ-loop text at value₀ next₀ digit₀ value next digit = length text - next
 
+abbrev start : tie.At-loop Inv-loop μ-loop → tie.Start Inv-loop μ-loop
+start l = l .before .before .before
+
 digit-at-requires : tie.Need-digit-at-requires Inv-loop μ-loop
 digit-at-requires c κs = tt
 
@@ -35,13 +38,17 @@ returns c =
     sym (passed-limit _ _ _ _ (passed-more _ _ (l .next) (l .value) (l .inv .0) (l .digit) (l .inv .1) (omega arith)) (c .if1 .taken))
 
 add-next : tie.Need-add-next Inv-loop μ-loop
-add-next c = omega (arith, digit-within (c .before .before .before .before .before .args .text .now) (c .before .before .loop .next) (omega arith))
+add-next c =
+    let l = c .before .before in
+    omega (arith, digit-within (start l .args .text .now) (l .loop .next) (omega arith))
 
 digit-at-requires-2 : tie.Need-digit-at-requires-2 Inv-loop μ-loop
 digit-at-requires-2 c κs = tt
 
 loop-less : tie.Need-loop-less Inv-loop μ-loop
-loop-less c = omega (arith, digit-within (c .before .before .before .before .before .before .args .text .now) (c .before .before .before .loop .next) (omega arith))
+loop-less c =
+    let l = c .before .before .before in
+    omega (arith, digit-within (start l .args .text .now) (l .loop .next) (omega arith))
 
 loop-again : tie.Need-loop-again Inv-loop μ-loop
 loop-again c =

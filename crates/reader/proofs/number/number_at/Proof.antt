@@ -1,4 +1,5 @@
--- `reader::number::number_at` meets its contract: after a zero no digit may follow, and any other run of digits is a number where its value fits.
+-- `reader::number::number_at` meets its contract: after a zero no digit may follow, and any other run of digits is a number
+-- where its value fits.
 -- Assumes nothing.
 use mathlib.Core.Path.{_≡_, _∙_}
 use native.Mathlib.Omega.{arith}

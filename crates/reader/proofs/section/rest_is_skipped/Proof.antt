@@ -20,7 +20,9 @@ shared-slice-read-byte : tie.Need-shared-slice-read-byte
 shared-slice-read-byte c = search needs
 
 -- there is a first byte
-first : (c : tie.Else1) → skipped (drop (c .before .args .at) (now (c .before .args .text))) ≡ isIn (getD (now (c .before .args .text)) (c .before .args .at) 0) restLetters
+first : (c : tie.Else1)
+    → let a = c .before .args in
+    skipped (drop (a .at) (now (a .text))) ≡ isIn (getD (now (a .text)) (a .at) 0) restLetters
 unfolding skipped
 first c = ap skipped (drop-cons (now (c .before .args .text)) (c .before .args .at) 0 (c .if1 .left))
 

@@ -40,7 +40,8 @@ same-length c = search needs
 returns : tie.Need-returns
 returns c =
     let a = c .before .before .before .args in
-    laid-gate (a .at) (now (a .words)) (a .one .0) (a .other .0) (a .other .0) (a .one .0) (c .before .before .before .pre) (omega arith) (omega arith)
+    laid-gate (a .at) (now (a .words)) (a .one .0) (a .other .0) (a .other .0) (a .one .0)
+    (c .before .before .before .pre) (omega arith) (omega arith)
 
 same-length-2 : tie.Need-same-length-2
 same-length-2 c = search needs
@@ -48,7 +49,8 @@ same-length-2 c = search needs
 returns-2 : tie.Need-returns-2
 returns-2 c =
     let a = c .before .before .before .args in
-    laid-gate (a .at) (now (a .words)) (a .one .0) (a .other .0) (a .one .0) (a .other .0) (c .before .before .before .pre) (omega arith) (omega arith)
+    laid-gate (a .at) (now (a .words)) (a .one .0) (a .other .0) (a .one .0) (a .other .0)
+    (c .before .before .before .pre) (omega arith) (omega arith)
 
 pub store-gate-spec : {M : Type 1} → statement M
 store-gate-spec =
