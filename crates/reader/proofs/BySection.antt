@@ -4,20 +4,38 @@ use mathlib.Core.Path.{_≡_, refl, sym, ap, ap₂, _∙_}
 use mathlib.Core.Bool.{Bool, true, false, cond}
 use mathlib.Core.List.{List, [], _∷_, _++_, append-nil, map, flatMap}
 use mathlib.Core.Option.{Option, none, some}
-use Prim.Native.Nat.{ℕ, suc, _+_}
+use Prim.Native.Nat.{ℕ, suc}
 use lib.ListN.{length, getD}
-use Rattle.graph.specs.Lists.{joined, cut}
 use Rattle.graph.specs.declared.refusal.Refusal.{Refusal}
-use Rattle.graph.specs.declared.refusal.Refusal.the-variants.{BadLine, BadLiteral}
+use Rattle.graph.specs.declared.refusal.Refusal.the-variants.{BadLine}
+use Rattle.graph.specs.Lists.{joined, cut}
 use Rattle.graph.specs.Graph.{graphOf}
 use Rattle.text.specs.declared.header.Header.{Header}
 use Rattle.text.specs.Number.{Front}
 use Rattle.text.specs.Line.{lineOf}
 use Rattle.text.specs.States.{skipped}
-use Rattle.text.specs.Reading.{Needed, inputsNeeded, outputsNeeded, gatesNeeded, sections, linesNeeded, Lines, right, withLine, readLines, gateWords, graphIn, graphRead, refuses, yields, readBody}
+use Rattle.text.specs.Reading.{
+  Needed,
+  inputsNeeded,
+  outputsNeeded,
+  gatesNeeded,
+  sections,
+  linesNeeded,
+  Lines,
+  right,
+  withLine,
+  readLines,
+  gateWords,
+  graphIn,
+  graphRead,
+  refuses,
+  yields,
+  readBody,
+}
 use Rattle.reader.specs.Sections.{Words, words, withWords, readWords, noWords, outputWords}
 use Rattle.graph.proofs.Gathered.{cut-joined}
 use Rattle.text.proofs.Reading.{body-wrong, body-right}
+use Rattle.reader.proofs.Sections.{by-rule, by-line}
 
 -- ---- one section
 
@@ -54,7 +72,8 @@ module _ (f : List ℕ → List ℕ) where
   tells [] t = record { lines = []; count = refl; words-are = refl; go-on = λ later. with-no-lines (readLines later t) }
   tells (x ∷ xs) t = go (lineOf (x .numbers) t) refl (tells xs)
     where
-      more : (y : Front (List ℕ)) → ((later : List Needed) → readLines (x ∷ xs ++ later) t ≡ withLine (y .got) (readLines (xs ++ later) (y .rest)))
+      more : (y : Front (List ℕ))
+          → ((later : List Needed) → readLines (x ∷ xs ++ later) t ≡ withLine (y .got) (readLines (xs ++ later) (y .rest)))
           → (w : Words) → Tells f xs (y .rest) w → Tells f (x ∷ xs) t (withWords (f (y .got)) w)
       more y e (Words.wrong r) s = λ later. e later ∙ ap (withLine (y .got)) (s later)
       more y e (words ws u) s = record {
@@ -64,15 +83,15 @@ module _ (f : List ℕ → List ℕ) where
         go-on = λ later. e later ∙ ap (withLine (y .got)) (s .go-on later) ∙ with-line (y .got) (s .lines) (readLines later u);
       }
 
-      by-rule : (y : Front (List ℕ)) → lineOf (x .numbers) t ≡ some y → (b : Bool) → x .rule (y .got) ≡ b → Tells f xs (y .rest) (readWords f xs (y .rest))
-          → Tells f (x ∷ xs) t (elim b [ true ↦ withWords (f (y .got)) (readWords f xs (y .rest)) | false ↦ Words.wrong BadLiteral ])
-      by-rule y q true e s = more y (λ later. rw (q, e, readLines)) (readWords f xs (y .rest)) s
-      by-rule y q false e s = λ later. rw (q, e, readLines)
+      ruled : (y : Front (List ℕ)) → lineOf (x .numbers) t ≡ some y → (b : Bool) → x .rule (y .got) ≡ b
+          → Tells f xs (y .rest) (readWords f xs (y .rest)) → Tells f (x ∷ xs) t (by-rule f xs y b)
+      ruled y q true e s = more y (λ later. rw (q, e, readLines)) (readWords f xs (y .rest)) s
+      ruled y q false e s = λ later. rw (q, e, readLines)
 
       go : (o : Option (Front (List ℕ))) → lineOf (x .numbers) t ≡ o → ((u : List ℕ) → Tells f xs u (readWords f xs u))
-          → Tells f (x ∷ xs) t (elim o [ none ↦ Words.wrong BadLine | some y ↦ elim (x .rule (y .got)) [ true ↦ withWords (f (y .got)) (readWords f xs (y .rest)) | false ↦ Words.wrong BadLiteral ] ])
+          → Tells f (x ∷ xs) t (by-line f x xs o)
       go none q below = λ later. rw (q, readLines)
-      go (some y) q below = by-rule y q (x .rule (y .got)) refl (below (y .rest))
+      go (some y) q below = ruled y q (x .rule (y .got)) refl (below (y .rest))
 
 -- ---- the three sections and the rest
 
@@ -124,27 +143,31 @@ module _ (h : Header) (t : List ℕ) where
       unfolding Tells
       after-outputs = rw outputs at (tells outputWords (outputsNeeded h) u)
 
-      lines-of-two : readLines (linesNeeded h) t ≡ withLines (after-inputs .lines) (withLines (after-outputs .lines) (readLines (gatesNeeded h ++ []) v))
+      -- the lines of both sections before others
+      abbrev with-two : Lines → Lines
+      with-two x = withLines (after-inputs .lines) (withLines (after-outputs .lines) x)
+
+      lines-of-two : readLines (linesNeeded h) t ≡ with-two (readLines (gatesNeeded h ++ []) v)
       lines-of-two =
           lines-are
           ∙ after-inputs .go-on (outputsNeeded h ++ gatesNeeded h)
-          ∙ ap (withLines (after-inputs .lines)) (after-outputs .go-on (gatesNeeded h) ∙ ap (λ (needs : List Needed). withLines (after-outputs .lines) (readLines needs v)) (sym (append-nil (gatesNeeded h))))
+          ∙ ap (withLines (after-inputs .lines)) (after-outputs .go-on (gatesNeeded h))
+          ∙ ap (λ (needs : List Needed). with-two (readLines needs v)) (sym (append-nil (gatesNeeded h)))
 
       pub gates-wrong : {r : Refusal} → readWords gateWords (gatesNeeded h) v ≡ Words.wrong r → readBody h t ≡ refuses r
       unfolding Tells withLines
       gates-wrong e =
-          body-wrong h t
-          (lines-of-two ∙ ap (λ (x : Lines). withLines (after-inputs .lines) (withLines (after-outputs .lines) x)) ((rw e at (tells gateWords (gatesNeeded h) v)) []))
+          body-wrong h t (lines-of-two ∙ ap with-two ((rw e at (tells gateWords (gatesNeeded h) v)) []))
 
       module _ {gs w : List ℕ} (gates : readWords gateWords (gatesNeeded h) v ≡ words gs w) where
         after-gates : Passed gateWords (gatesNeeded h) v gs w
         unfolding Tells
         after-gates = rw gates at (tells gateWords (gatesNeeded h) v)
 
-        lines-of-three : (b : Bool) → skipped w ≡ b → readLines (linesNeeded h) t
-            ≡ withLines (after-inputs .lines) (withLines (after-outputs .lines) (withLines (after-gates .lines) (cond b (right []) (Lines.wrong BadLine))))
+        lines-of-three : (b : Bool) → skipped w ≡ b
+            → readLines (linesNeeded h) t ≡ with-two (withLines (after-gates .lines) (cond b (right []) (Lines.wrong BadLine)))
         unfolding readLines
-        lines-of-three b e = lines-of-two ∙ ap (λ (x : Lines). withLines (after-inputs .lines) (withLines (after-outputs .lines) x)) (after-gates .go-on [] ∙ rw e)
+        lines-of-three b e = lines-of-two ∙ ap with-two (after-gates .go-on [] ∙ rw e)
 
         pub rest-wrong : skipped w ≡ false → readBody h t ≡ refuses BadLine
         unfolding withLines

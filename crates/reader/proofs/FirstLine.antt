@@ -1,4 +1,4 @@
--- What the code's answers on the first line say of the whole reading.
+-- The first line is `aag` and a space before a line of five numbers; what the code's answers on it say of the whole reading.
 -- Assumes nothing.
 use mathlib.Core.Path.{_≡_, sym}
 use mathlib.Core.Bool.{true, false}
@@ -11,11 +11,32 @@ use Rattle.graph.specs.declared.refusal.Refusal.the-variants.{BadHeader}
 use Rattle.graph.specs.Refuse.{firstRefusal, verdictIs}
 use Rattle.reader.specs.declared.header.HeaderLine.{HeaderLine}
 use Rattle.graph.specs.declared.verdict.Verdict.{Verdict}
+use Rattle.scanner.specs.declared.bytes.ByteStep.{ByteStep}
+use Rattle.scanner.specs.Tokens.{byteStep}
 use Rattle.text.specs.Number.{front}
+use Rattle.text.specs.Line.{after, lineOf}
+use Rattle.text.specs.States.{aag}
 use Rattle.text.specs.Reading.{headerLine, headerRefusals, refuses, readBody, reading}
-use Rattle.reader.specs.Lines.{headerNumbers, headerStep}
+use Rattle.reader.specs.FirstLine.{headerNumbers, headerStep}
 use Rattle.reader.specs.Sections.{Limited}
 use Rattle.text.proofs.Reading.{no-first-line, first-line-refused, first-line-passes, header-within-iff}
+
+-- ---- what is found
+
+pub no-header-found : (t : List ℕ) (s : HeaderLine) → s .found ≡ false → headerStep t s ≡ none
+unfolding headerStep
+no-header-found t s e = rw e
+
+module _ (t : List ℕ) (s : ByteStep) (is : byteStep t s ≡ after aag t) where
+  pub header-stops : s .found ≡ false → headerLine t ≡ none
+  unfolding byteStep headerLine
+  header-stops e = rw (sym is, e)
+
+  pub header-goes-on : s .found ≡ true → headerLine t ≡ lineOf 5 (drop (s .next) t)
+  unfolding byteStep headerLine
+  header-goes-on e = rw (sym is, e)
+
+-- ---- what it says of the whole text
 
 pub header-missing : (t : List ℕ) (s : HeaderLine) → headerStep t s ≡ headerLine t → s .found ≡ false → reading t ≡ refuses BadHeader
 unfolding headerStep

@@ -1,10 +1,3 @@
-pub mod Walk
-pub mod Answers
-pub mod Thin
-pub mod Asked
-pub mod Tokens
-pub mod Lines
-pub mod LineWalk
 pub mod FirstLine
 pub mod Sections
 pub mod BySection

@@ -1,4 +1,3 @@
-pub mod Tokens
-pub mod Lines
+pub mod FirstLine
 pub mod Sections
 pub mod KeptAside

@@ -1,11 +1,7 @@
 // Reading a text into lists lent for its graph. The words are kept aside until the whole text is judged: a refusal writes nothing.
 mod aside;
-mod bytes;
 mod header;
-mod line;
-mod number;
 mod section;
-mod text_reader;
 
 ghost use mathlib.Core.Path.{_≡_};
 ghost use Rattle.graph.specs.Lent.{buffersOf, _leaving_};

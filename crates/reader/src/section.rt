@@ -5,21 +5,34 @@ ghost use Prim.Native.Nat.{_+_, _*_, _<_, _≤_};
 ghost use lib.ListN.{length, take, drop};
 ghost use Rattle.text.specs.States.{skipped};
 ghost use Rattle.text.specs.Reading.{gateNeeded, inputsNeeded, outputsNeeded, gatesNeeded, gateWords};
-ghost use Rattle.reader.specs.Sections.{Limited, noWords, outputWords, readWords, sectionWords};
+ghost use Rattle.reader.specs.Sections.{lineRefusal, Limited, noWords, outputWords, readWords, sectionWords};
 ghost use Rattle.graph.specs.Graph.{mostInputs, mostGates, largerFirst};
 ghost use Rattle.graph.specs.Lent.{laid};
-use crate::line::line_of;
-use crate::line::line_verdict;
+ghost use Rattle.graph.specs.Refuse.{verdictIs};
 use graph::Lit;
 use graph::Refusal;
 use graph::Var;
 use graph::Verdict;
+use scanner::line_of;
 use text::Header;
 
 // Where a section ends, or why its first wrong line is refused.
 pub enum Section {
     Ends(usize),
     Wrong(Refusal),
+}
+
+// A misshapen line is a bad line, one that breaks its rule a bad literal.
+fn line_verdict(found: bool, kept: bool) -> Verdict
+    ensures { λ r. ⌜ verdictIs r ≡ lineRefusal found kept ⌝ }
+{
+    if !found {
+        return Verdict::Refused(Refusal::BadLine);
+    }
+    if !kept {
+        return Verdict::Refused(Refusal::BadLiteral);
+    }
+    Verdict::Fine
 }
 
 // Input line k is 2k.

@@ -2,7 +2,7 @@
 -- Assumes nothing.
 use mathlib.Core.Path.{sym, _∙_}
 use borrow.Author.Tests.{not-true, not-false}
-use Rattle.reader.proofs.Tokens.{bytes-stop, bytes-go-on, no-byte-found}
+use Rattle.scanner.proofs.Tokens.{bytes-stop, bytes-go-on, no-byte-found}
 use borrow.Author.Needs.{needs}
 use Rattle.reader.proofs.header.aag_at_front.Statement.{statement}
 use Rattle.reader.proofs.header.aag_at_front.Tie as tie

@@ -2,8 +2,9 @@
 -- Assumes nothing.
 use mathlib.Core.Path.{sym, _∙_}
 use borrow.Author.Tests.{not-true, not-false}
-use Rattle.reader.specs.Lines.{headerStep}
-use Rattle.reader.proofs.Lines.{line-picked, no-header-found, header-stops, header-goes-on}
+use Rattle.reader.specs.FirstLine.{headerStep}
+use Rattle.scanner.proofs.Lines.{line-picked}
+use Rattle.reader.proofs.FirstLine.{no-header-found, header-stops, header-goes-on}
 use borrow.Author.Needs.{needs}
 use Rattle.reader.proofs.header.header_line.Statement.{statement}
 use Rattle.reader.proofs.header.header_line.Tie as tie

@@ -11,7 +11,7 @@ use lib.ListN.{length, take, drop}
 use Rattle.graph.specs.Graph.{largerFirst}
 use Rattle.text.specs.declared.header.Header.{Header}
 use Rattle.text.specs.Reading.{Needed, freeOf, gateNeeded, gateWords}
-use Rattle.reader.specs.Lines.{lineStep}
+use Rattle.scanner.specs.Lines.{lineStep}
 use Rattle.reader.specs.Sections.{readWords, sectionWords}
 use Rattle.reader.proofs.Sections.{SoFar, none-so-far, line-refused, line-fine}
 use Rattle.graph.proofs.Gathered.{singles}

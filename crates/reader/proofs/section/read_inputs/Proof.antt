@@ -8,7 +8,7 @@ use borrow.Author.Needs.{needs}
 use lib.Dec.{eqb}
 use lib.ListN.{drop}
 use Rattle.text.specs.Reading.{Needed, inputNeeded}
-use Rattle.reader.specs.Lines.{lineStep}
+use Rattle.scanner.specs.Lines.{lineStep}
 use Rattle.reader.specs.Sections.{noWords, sectionWords}
 use Rattle.reader.proofs.Sections.{SoFar, none-so-far, line-refused, line-fine}
 use Rattle.reader.proofs.section.read_inputs.Statement.{statement}

@@ -10,7 +10,7 @@ use lib.Dec.{leb}
 use lib.ListN.{length, getD, take, drop, length-set}
 use lib.Seq.{take-suc-set}
 use Rattle.text.specs.Reading.{Needed, outputNeeded}
-use Rattle.reader.specs.Lines.{lineStep}
+use Rattle.scanner.specs.Lines.{lineStep}
 use Rattle.reader.specs.Sections.{outputWords, sectionWords}
 use Rattle.reader.proofs.Sections.{SoFar, none-so-far, line-refused, line-fine}
 use Rattle.reader.proofs.section.read_outputs.Statement.{statement}
