@@ -14,7 +14,7 @@ use Rattle.graph.specs.Evaluate.{literalUnder, outputsUnder}
 use Rattle.graph.proofs.Lists.{map-same}
 use Rattle.graph.proofs.Use.{reached-within, reached-marked}
 use Rattle.graph.proofs.Renumber.{number-low}
-use Rattle.graph.proofs.Values.{outputs-are-literals}
+use Rattle.graph.proofs.Evaluate.{outputs-are-literals}
 use Rattle.graph.proofs.Stand.{plain-value, moved, in-order, Carries, literal-carries, copy-carries, all-carry}
 use Rattle.graph.proofs.Drop.{new-gate, new-first, new-second, dropped-free, dropped-lawful}
 

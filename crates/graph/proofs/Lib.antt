@@ -4,7 +4,6 @@ pub mod Each
 pub mod Gather
 pub mod Graph
 pub mod Sweep
-pub mod Values
 pub mod Marks
 pub mod Use
 pub mod Renumber
@@ -13,7 +12,6 @@ pub mod Drop
 pub mod DropKeeps
 pub mod Refuse
 pub mod Tests
+pub mod Lent
 pub mod Evaluate
 pub mod Gathered
-pub mod Laying
-pub mod StoredWords

@@ -12,7 +12,7 @@ use Rattle.graph.specs.Graph.{Net, free, first, second}
 use Rattle.graph.specs.Sweep.{bools, turned}
 use Rattle.graph.specs.Evaluate.{valueUnder, literalUnder}
 use Rattle.graph.proofs.Lists.{at-most-or-above, strong}
-use Rattle.graph.proofs.Values.{value-zero, value-input, value-gate}
+use Rattle.graph.proofs.Evaluate.{value-zero, value-input, value-gate}
 
 -- ---- complements
 

@@ -26,7 +26,8 @@ use Rattle.graph.proofs.Refuse.{
   first-join,
   decides-join,
 }
-use Rattle.graph.proofs.Tests.{test-off, short-iff}
+use Rattle.graph.proofs.Tests.{test-off}
+use Rattle.graph.proofs.Lent.{short-iff}
 use Rattle.window.specs.declared.leaf_set.Leaves.{Leaves}
 use Rattle.window.specs.Calls.{rootRefusals, windowRefusals, WindowGiven}
 use Rattle.window.proofs.Calls.{window-decides, window-at-most}

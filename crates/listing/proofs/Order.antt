@@ -1,9 +1,9 @@
 -- The order of records goes one way, so a list in this order has no repeats and is determined by its members.
 -- Assumes nothing.
 use mathlib.Core.Path.{_≡_}
-use mathlib.Core.List.{List, [], _∷_}
+use mathlib.Core.List.{List, _∷_}
 use mathlib.Core.Logic.{_↔_}
-use Prim.Native.Nat.{ℕ, _<_}
+use Prim.Native.Nat.{ℕ}
 use native.Mathlib.Omega.{arith}
 use Rattle.graph.specs.Lists.{_∈_}
 use Rattle.listing.specs.declared.Candidate.{Candidate}

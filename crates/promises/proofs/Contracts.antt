@@ -9,7 +9,7 @@ use lib.ListN.{length, take, length-take}
 use Rattle.graph.specs.declared.refusal.Refusal.{Refusal}
 use Rattle.graph.specs.Graph.{Graph, size, WellFormed}
 use Rattle.graph.specs.Lent.{Buffers, Effect, _leaving_}
-use Rattle.graph.proofs.Tests.{room-for}
+use Rattle.graph.proofs.Lent.{room-for}
 use Rattle.text.specs.declared.ReadText.{ReadText}
 use Rattle.text.specs.declared.WrittenText.{WrittenText}
 use Rattle.text.specs.States.{textOf}

@@ -10,7 +10,7 @@ use Rattle.graph.specs.declared.refusal.Refusal.{Refusal}
 use Rattle.graph.specs.declared.refusal.Refusal.the-variants.{NoRoom}
 use Rattle.graph.specs.Graph.{Graph, graphOf, mostGates, mostOutputs}
 use Rattle.graph.specs.Lent.{Buffers, buffersOf, NoRoomFor, few-gate-words, few-output-words, storedIn, _leaving_}
-use Rattle.graph.proofs.Tests.{no-room-iff, room-for}
+use Rattle.graph.proofs.Lent.{no-room-iff, room-for}
 use Rattle.text.specs.declared.ReadText.{ReadText}
 use Rattle.text.specs.Reading.{yields, reading}
 use Rattle.text.specs.Calls.{withRoom, readEffect}

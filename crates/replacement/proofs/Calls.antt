@@ -26,7 +26,8 @@ use Rattle.graph.proofs.Refuse.{
   none-parts,
   decides-join,
 }
-use Rattle.graph.proofs.Tests.{denial-on, denial-off, test-off, eqb-iff, no-room-iff}
+use Rattle.graph.proofs.Tests.{denial-on, denial-off, test-off, eqb-iff}
+use Rattle.graph.proofs.Lent.{no-room-iff}
 use Rattle.window.specs.declared.leaf_set.Leaves.{Leaves}
 use Rattle.window.specs.Table.{table, sameTable}
 use Rattle.window.specs.Calls.{windowRefusals, WindowGiven, rootRefusals, by-root, bad-graph, bad-root}

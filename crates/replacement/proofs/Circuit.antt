@@ -14,7 +14,7 @@ use Rattle.graph.specs.Sweep.{bools}
 use Rattle.graph.specs.Evaluate.{assigned, valueUnder, literalUnder, valuesUnder, outputsUnder}
 use Rattle.graph.proofs.Lists.{equal-or-not, map-same}
 use Rattle.graph.proofs.Sweep.{values-at}
-use Rattle.graph.proofs.Values.{outputs-are-literals}
+use Rattle.graph.proofs.Evaluate.{outputs-are-literals}
 use Rattle.graph.proofs.Stand.{plain-value, moved, Copies, Carries, literal-carries, copy-carries, all-carry}
 use Rattle.window.specs.declared.leaf_set.Leaves.{Leaves}
 use Rattle.window.specs.Leaves.{leafList}

@@ -1,12 +1,12 @@
 -- A net made of pieces, two words for each gate.
 -- Assumes nothing.
-use mathlib.Core.Path.{_≡_, refl, ap, _∙_}
+use mathlib.Core.Path.{_≡_, ap, _∙_}
 use mathlib.Core.List.{List}
 use Prim.Native.Nat.{ℕ, suc, _+_, _-_, _*_, _≤_, _<_, max, min}
 use native.Mathlib.Omega.{arith}
 use lib.ListN.{length, getD}
 use Rattle.graph.specs.Lists.{gather}
-use Rattle.graph.specs.Graph.{Net, netOf, free, size, first, second, largerFirst, IsGate}
+use Rattle.graph.specs.Graph.{Net, netOf, size, first, second, largerFirst}
 use Rattle.graph.proofs.Graph.{larger-first}
 use Rattle.graph.proofs.Gather.{length-gather, getD-gather}
 

@@ -1,7 +1,7 @@
 -- Rewiring replaces the root by what the proposal computes: kinds 0 and 1 are two uses of the one argument in Circuit.
 -- Assumes nothing.
 use mathlib.Core.Path.{_≡_, refl, sym, ap, ap₂, _∙_}
-use mathlib.Core.Bool.{Bool, true, cond, _&&_, and-comm}
+use mathlib.Core.Bool.{Bool, cond, _&&_, and-comm}
 use mathlib.Core.Logic.{⊎-elim}
 use Prim.Native.Nat.{ℕ, _+_, _*_, _%_, _≤_, _<_, max, min}
 use native.Mathlib.Omega.{arith}
@@ -12,7 +12,7 @@ use Rattle.graph.specs.Graph.{Net, Graph, sinks, first, second, IsGate, Lawful}
 use Rattle.graph.specs.Sweep.{bools, turned, litValue}
 use Rattle.graph.specs.Evaluate.{valueUnder, literalUnder, valuesUnder}
 use Rattle.graph.proofs.Lists.{at-most-or-above, equal-or-not, map-same}
-use Rattle.graph.proofs.Values.{literal-value, value-gate}
+use Rattle.graph.proofs.Evaluate.{literal-value, value-gate}
 use Rattle.graph.proofs.Stand.{moved, Copies, in-order, exchanged}
 use Rattle.replacement.specs.declared.types.Proposal.{Proposal}
 use Rattle.replacement.specs.Proposal.{proposedValue}

@@ -4,12 +4,11 @@ use mathlib.Core.Path.{_≡_, refl, sym, ap, _∙_, subst}
 use mathlib.Core.Bool.{Bool, true, false, cond}
 use mathlib.Core.List.{List, [], _∷_}
 use mathlib.Core.Logic.{_⊎_, inl, inr, ⊎-elim, _↔_}
-use Prim.Native.Nat.{ℕ, zero, suc, _+_, _-_, _≤_, _<_}
+use Prim.Native.Nat.{ℕ, suc, _+_, _-_, _≤_, _<_}
 use native.Mathlib.Nat.{le-refl}
 use native.Mathlib.Omega.{arith}
 use lib.ListN.{length, getD}
 use Rattle.graph.specs.Lists.{gather, keep}
-use Rattle.graph.specs.Literal.{varOf}
 use Rattle.graph.specs.Graph.{Graph, free, size, last, IsGate, Lawful}
 use Rattle.graph.specs.Use.{Reached, as-output, markEach, markDown, marks, countMarks, usedGates}
 use Rattle.graph.proofs.Lists.{true-or-false, same-tests}

@@ -9,7 +9,8 @@ use Rattle.graph.specs.Refuse.{firstRefusal, numberOf, Answers}
 use Rattle.graph.specs.Graph.{Graph}
 use Rattle.graph.proofs.Graph.{well-formed-iff}
 use Rattle.graph.proofs.Refuse.{numberOf-injective, shown, settles-answers, ascends, Silent, Decides, first-settles}
-use Rattle.graph.proofs.Tests.{denial-on, denial-off, test-off, or-iff, no-room-iff}
+use Rattle.graph.proofs.Tests.{denial-on, denial-off, test-off, or-iff}
+use Rattle.graph.proofs.Lent.{no-room-iff}
 use Rattle.run.specs.Calls.{
   RunBuffers,
   runRank,

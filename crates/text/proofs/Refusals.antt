@@ -31,7 +31,8 @@ use Rattle.graph.proofs.Refuse.{
   first-settles,
   first-none,
 }
-use Rattle.graph.proofs.Tests.{denial-on, denial-off, test-off, short-iff, no-room-iff}
+use Rattle.graph.proofs.Tests.{denial-on, denial-off, test-off}
+use Rattle.graph.proofs.Lent.{short-iff, no-room-iff}
 use Rattle.text.specs.declared.header.Header.{Header}
 use Rattle.text.specs.Number.{Front, front}
 use Rattle.text.specs.States.{States, textOf}

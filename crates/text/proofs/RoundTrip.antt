@@ -1,7 +1,6 @@
 -- The text that is written for a well-formed graph is short enough to be read, and reading it gives the graph back.
 -- Assumes nothing.
 use mathlib.Core.Path.{_≡_}
-use mathlib.Core.Bool.{Bool, false}
 use mathlib.Core.List.{List, [], _∷_, _++_, flatMap}
 use Prim.Native.Nat.{ℕ, suc, _*_, _≤_, _<_, zero-le, suc-le-suc}
 use native.Mathlib.Nat.{zero-lt-suc}
@@ -10,7 +9,7 @@ use lib.ListN.{length, getD, length-append}
 use Rattle.graph.specs.Graph.{Graph, WellFormed}
 use Rattle.text.specs.Number.{decimal}
 use Rattle.text.specs.Line.{separator, line, lines}
-use Rattle.text.specs.States.{aag, counts, textOf}
+use Rattle.text.specs.States.{counts, textOf}
 use Rattle.text.specs.Reading.{headerOf, mostBytes, yields, reading}
 use Rattle.text.proofs.Number.{decimal-short}
 use Rattle.text.proofs.States.{linesOf, lines-count, unswapped, text-of-is, lines-fit, text-of-states}

@@ -9,29 +9,15 @@ use native.Mathlib.Omega.{arith}
 use borrow.Author.Tests.{ltb-true, le-leb, lt-ltb, eq-eqb}
 use lib.Dec.{ltb, eqb}
 use lib.ListN.{length, getD, length-append, length-map, List·getD-map}
-use Rattle.graph.specs.Lists.{gather, joined}
+use Rattle.graph.specs.Lists.{joined}
 use Rattle.graph.specs.Graph.{Net, Graph, graphOf, free, size, first, second, IsGate, Lawful}
 use Rattle.graph.proofs.Lists.{and-left, and-right, and-both}
 use Rattle.graph.proofs.Graph.{first-at, second-at}
 use Rattle.graph.proofs.Gather.{gather-same, gather-is}
 use Rattle.graph.proofs.Gathered.{singles, getD-singles, length-singles, singles-are, flatMap-singles}
 use Rattle.text.specs.Line.{line, lines}
-use Rattle.text.specs.States.{
-  aag,
-  skipped,
-  spelling,
-  Spelled,
-  counts,
-  inputNumbers,
-  outputNumbers,
-  gateLine,
-  gateNumbers,
-  sectionsOf,
-  numbersOf,
-  States,
-  textOf,
-}
-use Rattle.text.specs.Reading.{headerOf, Needed, inputNeeded, outputNeeded, gateNeeded, sections, linesNeeded, gateWords, graphIn, graphRead}
+use Rattle.text.specs.States.{aag, skipped, spelling, counts, inputNumbers, outputNumbers, gateLine, gateNumbers, sectionsOf, numbersOf, States, textOf}
+use Rattle.text.specs.Reading.{headerOf, inputNeeded, outputNeeded, gateNeeded, sections, linesNeeded, gateWords, graphIn, graphRead}
 use Rattle.text.proofs.Line.{lines-decode}
 use Rattle.text.proofs.Fits.{Kept, Fits, fits-decode, section-fits, AllFit, no-section, section, all-fit-joined, joined-parts}
 

@@ -16,7 +16,7 @@ use Rattle.graph.specs.Sweep.{bools, turned, litValue, values, valueAt}
 use Rattle.graph.specs.Evaluate.{assigned}
 use Rattle.graph.proofs.Lists.{at-most-or-above, strong, and-both}
 use Rattle.graph.proofs.Sweep.{values-length, values-at, own-value, gate-value}
-use Rattle.graph.proofs.Values.{assigned-gate}
+use Rattle.graph.proofs.Evaluate.{assigned-gate}
 use Rattle.graph.proofs.Members.{at-place}
 use Rattle.window.specs.declared.leaf_set.Leaves.{Leaves}
 use Rattle.window.specs.Leaves.{leafList, leafPlace}

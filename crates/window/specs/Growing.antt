@@ -7,12 +7,9 @@ use mathlib.Core.List.{List, []}
 use mathlib.Core.Option.{Option, none, some}
 use lib.Dec.{leb}
 use lib.ListN.{length}
-use Rattle.graph.specs.Graph.{Net, free, last, mostInputs, IsGate, Lawful}
-use Rattle.graph.specs.Lists.{_∈_}
 use Rattle.window.specs.declared.leaf_set.Leaves.{Leaves}
 use Rattle.window.specs.declared.leaf_set.Grown.{Grown}
 use Rattle.window.specs.Leaves.{leafLimit, leafList, leavesOf}
-use Rattle.window.specs.LeafRule.{expand}
 
 unfoldable pub grownFrom : Option (List ℕ) → Grown
 grownFrom none = record { fits = false; leaves = leavesOf [] }

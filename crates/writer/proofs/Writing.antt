@@ -4,7 +4,7 @@ use mathlib.Core.Path.{_≡_, refl, sym, ap, _∙_}
 use mathlib.Core.Bool.{true, false}
 use mathlib.Core.List.{List, [], _∷_, _++_, append-assoc, append-nil}
 use mathlib.Core.Option.{none}
-use Prim.Native.Nat.{ℕ, zero, suc, _+_, _-_, _*_, _/_, _≤_}
+use Prim.Native.Nat.{ℕ, suc, _+_, _-_, _*_, _/_, _≤_}
 use native.Mathlib.Nat.{suc-sub-suc}
 use native.Mathlib.Omega.{arith}
 use borrow.Author.Tests.{ltb-false, not-false}
@@ -19,7 +19,7 @@ use Rattle.graph.specs.Refuse.{firstRefusal, verdictIs}
 use Rattle.graph.proofs.Graph.{first-at, second-at}
 use Rattle.graph.proofs.Gather.{gather-same, gather-front}
 use Rattle.graph.proofs.Gathered.{flatMap-joined, flatMap-singles}
-use Rattle.graph.proofs.Laying.{laid-front}
+use Rattle.graph.proofs.Lent.{laid-front}
 use Rattle.graph.proofs.Refuse.{none-silent}
 use Rattle.text.specs.declared.WrittenText.{WrittenText}
 use Rattle.text.specs.Number.{decimal}

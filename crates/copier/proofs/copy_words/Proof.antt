@@ -8,7 +8,7 @@ use borrow.Author.Needs.{needs}
 use denote.Ref.{now}
 use lib.ListN.{length, getD, take, set, length-set}
 use Rattle.graph.specs.Lent.{written}
-use Rattle.graph.proofs.StoredWords.{written-more}
+use Rattle.graph.proofs.Lent.{written-more}
 use Rattle.copier.proofs.copy_words.Statement.{statement}
 use Rattle.copier.proofs.copy_words.Tie as tie
 

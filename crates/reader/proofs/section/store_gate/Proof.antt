@@ -3,7 +3,7 @@
 use native.Mathlib.Omega.{arith}
 use borrow.Author.Needs.{needs}
 use denote.Ref.{now}
-use Rattle.graph.proofs.StoredWords.{laid-gate}
+use Rattle.graph.proofs.Lent.{laid-gate}
 use Rattle.reader.proofs.section.store_gate.Statement.{statement}
 use Rattle.reader.proofs.section.store_gate.Tie as tie
 

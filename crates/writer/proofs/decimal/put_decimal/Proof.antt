@@ -9,7 +9,7 @@ use lib.ListN.{length, length-set}
 use Rattle.text.specs.Number.{digit, decimal}
 use Rattle.graph.specs.Lent.{laid}
 use Rattle.text.proofs.Number.{decimal-one, decimal-more, decimal-longer}
-use Rattle.graph.proofs.Laying.{laid-last, put-bytes}
+use Rattle.graph.proofs.Lent.{laid-last, put-bytes}
 use Rattle.writer.proofs.decimal.put_decimal.Statement.{statement}
 use Rattle.writer.proofs.decimal.put_decimal.Tie as tie
 

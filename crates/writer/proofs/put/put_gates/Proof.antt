@@ -5,7 +5,7 @@ use mathlib.Core.Path.{_≡_, refl}
 use Prim.Native.Nat.{suc, _+_, _-_, _*_, _/_}
 use native.Mathlib.Omega.{arith}
 use lib.ListN.{length}
-use Rattle.graph.proofs.Laying.{Pieces, pieces-none, pieces-length, pieces-all, piece-room, piece-then}
+use Rattle.graph.proofs.Lent.{Pieces, pieces-none, pieces-length, pieces-all, piece-room, piece-then}
 use Rattle.writer.proofs.Writing.{gateLineOf, gate-lines}
 use Rattle.writer.proofs.put.put_gates.Statement.{statement}
 use Rattle.writer.proofs.put.put_gates.Tie as tie

@@ -8,7 +8,7 @@ use native.Mathlib.Omega.{arith}
 use lib.ListN.{length, getD, length-append}
 use Rattle.text.specs.Number.{decimal}
 use Rattle.text.specs.Line.{separator}
-use Rattle.graph.proofs.Laying.{put-byte-then, Pieces, pieces-none, pieces-length, pieces-all, piece-room, piece-then}
+use Rattle.graph.proofs.Lent.{put-byte-then, Pieces, pieces-none, pieces-length, pieces-all, piece-room, piece-then}
 use Rattle.writer.proofs.Writing.{numberAt, line-numbers}
 use Rattle.writer.proofs.put.put_line.Statement.{statement}
 use Rattle.writer.proofs.put.put_line.Tie as tie

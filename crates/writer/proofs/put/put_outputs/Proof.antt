@@ -5,7 +5,7 @@ use mathlib.Core.Path.{refl}
 use Prim.Native.Nat.{_-_}
 use native.Mathlib.Omega.{arith}
 use lib.ListN.{length}
-use Rattle.graph.proofs.Laying.{Pieces, pieces-none, pieces-length, pieces-all, piece-room, piece-then}
+use Rattle.graph.proofs.Lent.{Pieces, pieces-none, pieces-length, pieces-all, piece-room, piece-then}
 use Rattle.writer.proofs.Writing.{outputLine, output-lines}
 use Rattle.writer.proofs.put.put_outputs.Statement.{statement}
 use Rattle.writer.proofs.put.put_outputs.Tie as tie

@@ -9,7 +9,7 @@ use borrow.Author.Needs.{needs}
 use lib.ListN.{length, length-append, length-set}
 use Rattle.graph.specs.Graph.{graphOf, WellFormed}
 use Rattle.graph.proofs.Graph.{well-formed}
-use Rattle.graph.proofs.Laying.{put-bytes, put-then, put-front}
+use Rattle.graph.proofs.Lent.{put-bytes, put-then, put-front}
 use Rattle.text.specs.Line.{line}
 use Rattle.text.specs.States.{aag}
 use Rattle.writer.proofs.Writing.{countsOf, inputPart, outputPart, gatePart, text-parts, text-size}

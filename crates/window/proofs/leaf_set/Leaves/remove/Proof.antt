@@ -5,7 +5,7 @@ use mathlib.Core.List.{List, _++_}
 use Prim.Native.Nat.{ℕ, _+_, _-_}
 use native.Mathlib.Omega.{arith}
 use borrow.Author.Needs.{needs}
-use lib.ListN.{length, getD, take, drop}
+use lib.ListN.{length, getD, drop}
 use Rattle.window.specs.Leaves.{leafList, leavesOf}
 use Rattle.window.specs.LeafRule.{remove}
 use Rattle.window.specs.Growing.{grownOf}

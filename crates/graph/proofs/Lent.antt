@@ -1,15 +1,40 @@
--- Lists laid into a lent list: what one call after another leaves there.
+-- Lent lists: room in them, and what words laid there and calls one after another leave.
 -- Assumes nothing.
 use mathlib.Core.Path.{_≡_, refl, sym, ap, _∙_}
 use mathlib.Core.List.{List, [], _∷_, _++_}
-use Prim.Native.Nat.{ℕ, suc, _+_, _≤_, _<_, zero-le}
+use Prim.Native.Nat.{ℕ, suc, _+_, _≤_, _<_, zero-le, max, min}
 use native.Mathlib.Numerals.{add-one}
 use native.Mathlib.Omega.{arith}
-use lib.ListN.{length, set, length-append, length-set}
-use lib.Seq.{set-comm, sets, sets-eq, length-sets}
+use lib.ListN.{length, set, length-append, length-set, getD, take, drop}
+use lib.Seq.{set-comm, sets, sets-eq, length-sets, length-take-le, take-at, paste, paste-suc}
 use Rattle.graph.specs.Lists.{gather}
-use Rattle.graph.specs.Lent.{written, laid}
+use Rattle.graph.specs.Lent.{written, laid, short, Buffers, noRoomFor, NoRoomFor, few-gate-words, few-output-words}
 use Rattle.graph.proofs.Gather.{gather-more}
+use Rattle.graph.specs.Graph.{largerFirst, Graph}
+use mathlib.Core.Bool.{true, false}
+use mathlib.Core.Logic.{_↔_, _⊎_, inl, inr, ⊎-elim}
+use borrow.Author.Tests.{le-ltb}
+use Rattle.graph.proofs.Tests.{or-iff, ltb-iff}
+
+-- ---- room in lent lists
+
+pub short-iff : {A : Type 0} (need : ℕ) (lent : List A) → (short need lent ≡ true) ↔ (length lent < need)
+unfolding short
+short-iff need lent = ltb-iff (length lent) need
+
+pub no-room-iff : (g : Graph) (b : Buffers) → (noRoomFor g b ≡ true) ↔ NoRoomFor g b
+unfolding noRoomFor
+no-room-iff g b =
+    let either = or-iff _ _ (short-iff (length (g .net .gates)) (b .gates)) (short-iff (length (g .outputs)) (b .outputs)) in
+    (λ e. ⊎-elim few-gate-words few-output-words (either .0 e), λ n. either .1 (sides n))
+  where
+    sides : NoRoomFor g b → (length (b .gates) < length (g .net .gates)) ⊎ (length (b .outputs) < length (g .outputs))
+    sides (few-gate-words h) = inl h
+    sides (few-output-words h) = inr h
+
+pub room-for : (g : Graph) (b : Buffers) → length (g .net .gates) ≤ length (b .gates) → length (g .outputs) ≤ length (b .outputs) → noRoomFor g b ≡ false
+unfolding noRoomFor short
+room-for g b gates-fit outputs-fit = rw (le-ltb _ _ gates-fit, le-ltb _ _ outputs-fit)
 
 -- ---- laid is stored element by element
 
@@ -102,3 +127,30 @@ module _ {f : ℕ → List ℕ} {n at : ℕ} {before : List ℕ} {k next : ℕ} 
     pub piece-then : {end : ℕ} {final : List ℕ} → Put next (f k) after end final → Pieces f n at before (k + 1) end final
     unfolding gather
     piece-then q = record { room = p .room; within = omega arith; put = rw (add-one k) (put-then at (gather f k) (f k) before piece-fits (p .put) q) }
+
+-- ---- words stored from a place on
+
+module _ (at : ℕ) (lent : List ℕ) where
+  -- a gate's words, stored side by side
+  pub laid-gate : (a b x y : ℕ) → at + 1 < length lent → x ≡ max a b → y ≡ min a b → set (set lent at x) (at + 1) y ≡ laid at (largerFirst a b) lent
+  unfolding largerFirst
+  laid-gate a b x y h p q = rw (add-one, sym p, sym q) (put-bytes at (x ∷ y ∷ []) lent (omega arith) .1)
+
+  pub take-laid : (xs : List ℕ) → at ≤ length lent → take (at + length xs) (laid at xs lent) ≡ take at lent ++ xs
+  unfolding laid
+  take-laid xs h =
+      take-at (take at lent ++ xs) (drop (at + length xs) lent) (at + length xs)
+      (length-append (take at lent) xs ∙ ap (λ (n : ℕ). n + length xs) (length-take-le at lent h))
+
+-- ---- and from the front
+
+module _ (xs lent : List ℕ) where
+  written-is : (n : ℕ) → n ≤ length xs → written (take n xs) lent ≡ paste lent 0 xs n
+  unfolding written
+  written-is n h = let e : length (take n xs) ≡ 0 + n = length-take-le n xs h ∙ omega arith in ap (λ (m : ℕ). take n xs ++ drop m lent) e
+
+  pub written-more : (k : ℕ) → k < length xs → k < length lent → set (written (take k xs) lent) k (getD xs k 0) ≡ written (take (k + 1) xs) lent
+  written-more k h l =
+      let place : k ≡ 0 + k = omega arith in
+      rw (add-one, written-is k (omega arith), written-is (suc k) h)
+      (ap (λ (i : ℕ). set (paste lent 0 xs k) i (getD xs k 0)) place ∙ paste-suc lent 0 xs k 0 (omega arith) h)
