@@ -72,5 +72,5 @@ module _ (g : Graph) (ok : WellFormed g) where
   pub run-is-one : (n : ℕ) (e : Graph) → Steps (dropped g) n e → (n ≡ run g .made) × (e ≡ run g .graph)
   run-is-one = run-only g ok
 
-  pub run-writes-nothing-nothing : (v : ℕ) → IsGate (run g .graph .net) v → NoneAt (run g .graph) v
-  run-writes-nothing-nothing = run-ends g ok
+  pub run-ends-with-none-left : (v : ℕ) → IsGate (run g .graph .net) v → NoneAt (run g .graph) v
+  run-ends-with-none-left = run-ends g ok

@@ -22,9 +22,6 @@ module _ (i : ℕ) (f : ℕ → List ℕ) (two : (v : ℕ) → length (f v) ≡ 
   pub pieces-length : length (ofPieces i f n .gates) ≡ 2 * n
   pieces-length = length-gather 2 (λ k. f (suc (i + k))) (λ k. two (suc (i + k))) n
 
-  pub pieces-size : size (ofPieces i f n) ≡ n
-  pieces-size = omega (arith, pieces-length)
-
   module _ (v : ℕ) (h : i < v) (l : v ≤ i + n) where
     word-at : (j : ℕ) → j < 2 → getD (ofPieces i f n .gates) (2 * (v - suc i) + j) 0 ≡ getD (f v) j 0
     word-at j b =
