@@ -44,7 +44,8 @@ module _ (i : ℕ) (gs : List ℕ) (k : ℕ) where
 
   pub gate-good : getD gs (2 * k + 1) 0 ≤ getD gs (2 * k) 0 → gateOk (netOf i gs) (suc (i + k)) ≡ ltb (getD gs (2 * k) 0) (2 * (i + k + 1))
   unfolding gateOk
-  gate-good h = let e : 2 * suc (i + k) ≡ 2 * (i + k + 1) = omega arith in rw (first-at (netOf i gs) k, second-at (netOf i gs) k, le-leb _ _ h, e)
+  gate-good h =
+      let e : 2 * suc (i + k) ≡ 2 * (i + k + 1) = omega arith in rw (first-at (netOf i gs) k, second-at (netOf i gs) k, le-leb _ _ h, e)
 
 -- ---- the whole graph
 
@@ -62,7 +63,14 @@ module _ (i : ℕ) (gs os : List ℕ) where
   pub well-by-gates : length gs % 2 ≡ 0 → outputsPass ≡ true → i ≤ mostInputs → length os ≤ mostOutputs → length gs / 2 ≤ mostGates
       → wellFormed (graphOf i gs os) ≡ gatesPass
   unfolding wellFormed every rules sinkOk
-  well-by-gates even outs fi fo fg = rw (eq-eqb (length gs % 2) 0 even, outs, le-leb i mostInputs fi, le-leb (length os) mostOutputs fo, le-leb (length gs / 2) mostGates fg) (and-true gatesPass)
+  well-by-gates even outs fi fo fg =
+      rw (
+        eq-eqb (length gs % 2) 0 even,
+        outs,
+        le-leb i mostInputs fi,
+        le-leb (length os) mostOutputs fo,
+        le-leb (length gs / 2) mostGates fg,
+      ) (and-true gatesPass)
     where
       and-true : (b : Bool) → b && true ≡ b
       and-true true = refl

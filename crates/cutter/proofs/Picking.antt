@@ -38,7 +38,8 @@ better-of : (b : Bool) (xs ys : List ℕ) → cond b (grownFrom (some ys)) (grow
 better-of true xs ys = refl
 better-of false xs ys = refl
 
-better-some : (xss : List (List ℕ)) (ys : List ℕ) → better (grownFrom (smallest xss)) (grownFrom (some ys)) ≡ grownFrom (smallest (xss ++ (ys ∷ [])))
+better-some : (xss : List (List ℕ)) (ys : List ℕ)
+    → better (grownFrom (smallest xss)) (grownFrom (some ys)) ≡ grownFrom (smallest (xss ++ (ys ∷ [])))
 unfolding better grownFrom smallest smallestFrom leavesOf
 better-some [] ys = refl
 better-some (xs ∷ xss) ys =
@@ -79,28 +80,36 @@ module _ (net : Net) (xs : List ℕ) where
   over-more : (vs : List ℕ) (v : ℕ) → over (vs ++ (v ∷ [])) ≡ over vs ++ over (v ∷ [])
   unfolding over
   over-more vs v =
-      ap (λ (us : List ℕ). keep (λ (ys : List ℕ). leb (length ys) leafLimit) (map (expand net xs) us)) (keep-append (λ u. ltb (free net) u) vs (v ∷ []))
-      ∙ ap (keep (λ (ys : List ℕ). leb (length ys) leafLimit)) (map-append (expand net xs) (keep (λ u. ltb (free net) u) vs) (keep (λ u. ltb (free net) u) (v ∷ [])))
+      ap (λ (us : List ℕ). keep (λ (ys : List ℕ). leb (length ys) leafLimit) (map (expand net xs) us))
+      (keep-append (λ u. ltb (free net) u) vs (v ∷ []))
+      ∙ ap (keep (λ (ys : List ℕ). leb (length ys) leafLimit))
+      (map-append (expand net xs) (keep (λ u. ltb (free net) u) vs) (keep (λ u. ltb (free net) u) (v ∷ [])))
       ∙ keep-append (λ (ys : List ℕ). leb (length ys) leafLimit) (map (expand net xs) (keep (λ u. ltb (free net) u) vs)) _
 
   over-input : (v : ℕ) → v ≤ free net → over (v ∷ []) ≡ []
   unfolding over keep
   over-input v h =
-      ap (λ (us : List ℕ). keep (λ (ys : List ℕ). leb (length ys) leafLimit) (map (expand net xs) us)) (kept-not (λ u. ltb (free net) u) v (le-ltb (free net) v h))
+      ap (λ (us : List ℕ). keep (λ (ys : List ℕ). leb (length ys) leafLimit) (map (expand net xs) us))
+      (kept-not (λ u. ltb (free net) u) v (le-ltb (free net) v h))
 
   over-gate : (v : ℕ) → free net < v → over (v ∷ []) ≡ keep (λ (ys : List ℕ). leb (length ys) leafLimit) (expand net xs v ∷ [])
   unfolding over
   over-gate v g =
-      ap (λ (us : List ℕ). keep (λ (ys : List ℕ). leb (length ys) leafLimit) (map (expand net xs) us)) (kept (λ u. ltb (free net) u) v (lt-ltb (free net) v g))
+      ap (λ (us : List ℕ). keep (λ (ys : List ℕ). leb (length ys) leafLimit) (map (expand net xs) us))
+      (kept (λ u. ltb (free net) u) v (lt-ltb (free net) v g))
 
   over-few : (v : ℕ) → free net < v → length (expand net xs v) ≤ leafLimit → over (v ∷ []) ≡ expand net xs v ∷ []
-  over-few v g h = over-gate v g ∙ kept (λ (ys : List ℕ). leb (length ys) leafLimit) (expand net xs v) (le-leb (length (expand net xs v)) leafLimit h)
+  over-few v g h =
+      over-gate v g ∙ kept (λ (ys : List ℕ). leb (length ys) leafLimit) (expand net xs v) (le-leb (length (expand net xs v)) leafLimit h)
 
   over-many : (v : ℕ) → free net < v → leafLimit < length (expand net xs v) → over (v ∷ []) ≡ []
-  over-many v g h = over-gate v g ∙ kept-not (λ (ys : List ℕ). leb (length ys) leafLimit) (expand net xs v) (lt-leb (length (expand net xs v)) leafLimit h)
+  over-many v g h =
+      over-gate v g
+      ∙ kept-not (λ (ys : List ℕ). leb (length ys) leafLimit) (expand net xs v) (lt-leb (length (expand net xs v)) leafLimit h)
 
   same-best : (xss yss : List (List ℕ)) → yss ≡ [] → grownFrom (smallest xss) ≡ grownFrom (smallest (xss ++ yss))
-  same-best xss yss e = ap (λ (zss : List (List ℕ)). grownFrom (smallest zss)) (sym (append-nil xss) ∙ ap (λ (zss : List (List ℕ)). xss ++ zss) (sym e))
+  same-best xss yss e =
+      ap (λ (zss : List (List ℕ)). grownFrom (smallest zss)) (sym (append-nil xss) ∙ ap (λ (zss : List (List ℕ)). xss ++ zss) (sym e))
 
   tried-is : (v : ℕ) (xss : List (List ℕ)) → tried net xs v (grownFrom (smallest xss)) ≡ grownFrom (smallest (xss ++ over (v ∷ [])))
   unfolding tried
@@ -160,7 +169,8 @@ module _ (net : Net) (root : ℕ) (p : Pickable net root) where
     unfolding grownFrom
     not-found t = go (smallest (expansions leafLimit net (leafList w))) refl
       where
-        go : (o : Option (List ℕ)) → smallest (expansions leafLimit net (leafList w)) ≡ o → smallest (expansions leafLimit net (leafList w)) ≡ none
+        go : (o : Option (List ℕ)) → smallest (expansions leafLimit net (leafList w)) ≡ o
+            → smallest (expansions leafLimit net (leafList w)) ≡ none
         go (some ys) q = absurd (false≢true (sym t ∙ ap (λ (u : Grown). u .fits) (e ∙ ap grownFrom q)))
         go none q = q
 
@@ -198,7 +208,13 @@ pub pickable : (g : Graph) (root : ℕ) → WellFormed g → IsGate (g .net) roo
 pickable g root w i =
     record {
       lawful =
-          record { even = w .lawful .even; ordered = w .lawful .ordered; below = w .lawful .below; sinks-within = λ j h. absurd (omega arith) };
+          record {
+            even = w .lawful .even;
+            ordered = w .lawful .ordered;
+            below = w .lawful .below;
+            sinks-within = λ j h. absurd
+                (omega arith);
+          };
       gate = i;
       inputs-few = w .inputs-few;
     }

@@ -17,7 +17,8 @@ pub extern "C" fn nenquilco_read(
     o: &mut usize,
 ) -> u32
     ensures { λ r. ⌜ Told (readNumbers (now (text .entry)) (now (gates .entry)) (now (outputs .entry)))
-        ((reads (now (text .entry)) (now (gates .entry)) (now (outputs .entry))) .lent) (now (i .entry) ∷ now (a .entry) ∷ now (o .entry) ∷ [])
+        ((reads (now (text .entry)) (now (gates .entry)) (now (outputs .entry))) .lent)
+        (now (i .entry) ∷ now (a .entry) ∷ now (o .entry) ∷ [])
         r (now (i .exit) ∷ now (a .exit) ∷ now (o .exit) ∷ []) (buffersOf (now (gates .exit)) (now (outputs .exit))) ⌝ }
 {
     match reader::read(text, gates, outputs) {
@@ -45,7 +46,8 @@ pub extern "C" fn nenquilco_write(
     n: &mut usize,
 ) -> u32
     ensures { λ r. ⌜ Told (writtenNumbers inputs (now (gates .entry)) (now (outputs .entry)) (now (bytes .entry)))
-        ((writes inputs (now (gates .entry)) (now (outputs .entry)) (now (bytes .entry))) .lent) (now (n .entry) ∷ []) r (now (n .exit) ∷ []) (now (bytes .exit)) ⌝ }
+        ((writes inputs (now (gates .entry)) (now (outputs .entry)) (now (bytes .entry))) .lent)
+        (now (n .entry) ∷ []) r (now (n .exit) ∷ []) (now (bytes .exit)) ⌝ }
 {
     match writer::write(inputs, gates, outputs, bytes) {
         WrittenText::Refused(refusal) => refusal.number(),

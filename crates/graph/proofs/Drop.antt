@@ -15,7 +15,22 @@ use Rattle.graph.proofs.Members.{map-at}
 use Rattle.graph.proofs.Lists.{at-most-or-above, map-same}
 use Rattle.graph.proofs.Marks.{Marked}
 use Rattle.graph.proofs.Use.{marked-reached, reached-marked, fanins-are-marked}
-use Rattle.graph.proofs.Renumber.{count-most, count-all, number-same, number-most, number-less, kept-length, kept-size, kept-gate, kept-first, kept-second, Kept, all-kept, renumbered-var, renumbered-mono}
+use Rattle.graph.proofs.Renumber.{
+  count-most,
+  count-all,
+  number-same,
+  number-most,
+  number-less,
+  kept-length,
+  kept-size,
+  kept-gate,
+  kept-first,
+  kept-second,
+  Kept,
+  all-kept,
+  renumbered-var,
+  renumbered-mono,
+}
 
 -- every gate is in use
 abbrev pub AllReached : Graph → Type 0
@@ -109,10 +124,12 @@ module _ (g : Graph) (ok : Lawful g) where
       omega (arith, sink-at g j l, dropped-size g, dropped-free g)
 
   gate-stays : (v : ℕ) → IsGate (g .net) v → Marked (marks g) v
-      → (second (dropped g .net) (number g v) ≤ first (dropped g .net) (number g v)) × (first (dropped g .net) (number g v) < 2 * number g v)
+      → (second (dropped g .net) (number g v) ≤ first (dropped g .net) (number g v))
+      × (first (dropped g .net) (number g v) < 2 * number g v)
   gate-stays v i m =
       let c = fanins-are-marked g ok v i m in
-      let o : literal g (second (g .net) v) ≤ literal g (first (g .net) v) = renumbered-mono (g .net) (marks g) (second (g .net) v) (first (g .net) v) (ok .ordered v i) (c .0) in
+      let o : literal g (second (g .net) v) ≤ literal g (first (g .net) v) =
+      renumbered-mono (g .net) (marks g) (second (g .net) v) (first (g .net) v) (ok .ordered v i) (c .0) in
       let b = literal-less (first (g .net) v) v (ok .below v i) (i .above) m in
       (omega (arith, new-first g v i m, new-second g v i m), omega (arith, new-first g v i m))
 
@@ -124,7 +141,8 @@ module _ (g : Graph) (ok : Lawful g) where
     sinks-within = sinks-stay;
   }
     where
-      new : (u : ℕ) → IsGate (dropped g .net) u → (second (dropped g .net) u ≤ first (dropped g .net) u) × (first (dropped g .net) u < 2 * u)
+      new : (u : ℕ) → IsGate (dropped g .net) u
+          → (second (dropped g .net) u ≤ first (dropped g .net) u) × (first (dropped g .net) u < 2 * u)
       new u i =
           let k = kept-of g u i in
           subst (λ (x : ℕ). (second (dropped g .net) x ≤ first (dropped g .net) x) × (first (dropped g .net) x < 2 * x)) (k .number-is-u)
@@ -134,17 +152,21 @@ module _ (g : Graph) (ok : Lawful g) where
 
   reached-stays : (v : ℕ) → Reached g v → Reached (dropped g) (number g v)
   reached-stays v (as-output j h) =
-      subst (Reached (dropped g)) (ap varOf (sink-at g j h) ∙ literal-var g (getD (sinks g) j 0)) (as-output j (omega (arith, sink-count g)))
+      subst (Reached (dropped g)) (ap varOf (sink-at g j h) ∙ literal-var g (getD (sinks g) j 0))
+      (as-output j (omega (arith, sink-count g)))
   reached-stays v (as-first {v = u} i r) =
       let m = reached-marked g ok u r in
-      subst (Reached (dropped g)) (ap varOf (new-first g u i m) ∙ literal-var g (first (g .net) u)) (as-first (new-gate g u i m) (reached-stays u r))
+      subst (Reached (dropped g)) (ap varOf (new-first g u i m) ∙ literal-var g (first (g .net) u))
+      (as-first (new-gate g u i m) (reached-stays u r))
   reached-stays v (as-second {v = u} i r) =
       let m = reached-marked g ok u r in
-      subst (Reached (dropped g)) (ap varOf (new-second g u i m) ∙ literal-var g (second (g .net) u)) (as-second (new-gate g u i m) (reached-stays u r))
+      subst (Reached (dropped g)) (ap varOf (new-second g u i m) ∙ literal-var g (second (g .net) u))
+      (as-second (new-gate g u i m) (reached-stays u r))
 
   pub dropped-all-reached : AllReached (dropped g)
   dropped-all-reached u i =
-      let k = kept-of g u i in subst (Reached (dropped g)) (k .number-is-u) (reached-stays (k .old) (marked-reached g (k .old) (k .is-marked)))
+      let k = kept-of g u i in
+      subst (Reached (dropped g)) (k .number-is-u) (reached-stays (k .old) (marked-reached g (k .old) (k .is-marked)))
 
   -- ---- a graph with all gates in use is left as it is
 
@@ -163,7 +185,8 @@ module _ (g : Graph) (ok : Lawful g) where
     unfolding renumbered
     literal-same l h = omega (arith, number-same-here (varOf l) h)
 
-    gate-same : (v : ℕ) → IsGate (g .net) v → (first (g .net) v ≡ first (dropped g .net) v) × (second (g .net) v ≡ second (dropped g .net) v)
+    gate-same : (v : ℕ) → IsGate (g .net) v
+        → (first (g .net) v ≡ first (dropped g .net) v) × (second (g .net) v ≡ second (dropped g .net) v)
     gate-same v i =
         let m = reached-marked g ok v (all v i) in
         let e = number-same-here v (i .within) in

@@ -56,5 +56,6 @@ module _ (g : Graph) (ok : Lawful g) where
         ∙ map-same (λ l. literalUnder (dropped g .net) a (renumbered (g .net) (marks g) l)) (literalUnder (g .net) a) 0 (sinks g)
         (λ j h.
         let l = getD (sinks g) j 0 in
-        ap (literalUnder (dropped g .net) a) (sym (moved-is l)) ∙ literal-carries (g .net) (dropped g .net) stand a l (reached-carries (varOf l) (as-output j h)))
+        ap (literalUnder (dropped g .net) a) (sym (moved-is l))
+        ∙ literal-carries (g .net) (dropped g .net) stand a l (reached-carries (varOf l) (as-output j h)))
         ∙ sym (outputs-are-literals g ok a)

@@ -11,7 +11,23 @@ use lib.ListN.{getD, length}
 use Rattle.graph.specs.Literal.{varOf, isOdd}
 use Rattle.graph.specs.Graph.{Net, Graph, free, last, sinks, first, second, Lawful}
 use Rattle.graph.specs.Sweep.{bools, turned, litValue, values, valueAt}
-use Rattle.graph.specs.Evaluate.{assigned, valueUnder, literalUnder, valuesUnder, outputsUnder, isAssignment, Assignment, evaluateRank, EvaluateGiven, bad-graph, bad-assignment, no-room, evaluateRefusals, evaluateEffect, evaluatedOutcome}
+use Rattle.graph.specs.Evaluate.{
+  assigned,
+  valueUnder,
+  literalUnder,
+  valuesUnder,
+  outputsUnder,
+  isAssignment,
+  Assignment,
+  evaluateRank,
+  EvaluateGiven,
+  bad-graph,
+  bad-assignment,
+  no-room,
+  evaluateRefusals,
+  evaluateEffect,
+  evaluatedOutcome,
+}
 use Rattle.graph.proofs.Lists.{map-same, and-left, and-right, and-both, all-at, all-of}
 use Rattle.graph.proofs.Sweep.{values-at, own-value, gate-value}
 use mathlib.Core.Logic.{_↔_}

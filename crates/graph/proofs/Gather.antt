@@ -37,7 +37,8 @@ module _ {A : Type 0} where
     gather-at zero k i d h b = absurd (omega arith)
     gather-at (suc n) k i d h b = ⊎-elim
         (λ l.
-        List·getD-append (gather f n) (f n) d (length (gather f k) + i) (let m = gather-more (suc k) n l in omega (arith, length-append (gather f k) (f k)))
+        List·getD-append (gather f n) (f n) d (length (gather f k) + i)
+        (let m = gather-more (suc k) n l in omega (arith, length-append (gather f k) (f k)))
         ∙ gather-at n k i d l b)
         (λ l.
         let e : k ≡ n = omega arith in
@@ -63,7 +64,8 @@ module _ {A : Type 0} where
     by-place P zero p j h = absurd (omega arith)
     by-place P (suc n) p j h = ⊎-elim
         (λ (m : j < c * n). by-place P n (λ k i l. p k i (omega arith)) j m)
-        (λ (m : c * n < suc j). let e : c * n + (j - c * n) ≡ j = omega arith in subst P e (p n (j - c * n) (le-refl (suc n)) (omega arith)))
+        (λ (m : c * n < suc j). let e : c * n + (j - c * n) ≡ j = omega arith in
+        subst P e (p n (j - c * n) (le-refl (suc n)) (omega arith)))
         (at-most-or-above (suc j) (c * n))
 
     pub gather-is : (xs : List A) (n : ℕ) (d : A) → length xs ≡ c * n → ((k i : ℕ) → k < n → i < c → getD xs (c * k + i) d ≡ getD (f k) i d)

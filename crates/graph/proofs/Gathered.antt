@@ -40,7 +40,8 @@ module _ {A B : Type 0} (F : A → List B) where
   pub flatMap-append : (xs ys : List A) → flatMap F (xs ++ ys) ≡ flatMap F xs ++ flatMap F ys
   unfolding flatMap
   flatMap-append [] ys = refl
-  flatMap-append (x ∷ xs) ys = ap (λ (zs : List B). F x ++ zs) (flatMap-append xs ys) ∙ sym (append-assoc (F x) (flatMap F xs) (flatMap F ys))
+  flatMap-append (x ∷ xs) ys =
+      ap (λ (zs : List B). F x ++ zs) (flatMap-append xs ys) ∙ sym (append-assoc (F x) (flatMap F xs) (flatMap F ys))
 
   pub flatMap-joined : (xss : List (List A)) → flatMap F (joined xss) ≡ joined (map (flatMap F) xss)
   unfolding flatMap joined
@@ -50,4 +51,5 @@ module _ {A B : Type 0} (F : A → List B) where
   pub flatMap-singles : (f : ℕ → A) (n : ℕ) → flatMap F (singles f n) ≡ gather (λ k. F (f k)) n
   unfolding flatMap gather
   flatMap-singles f zero = refl
-  flatMap-singles f (suc n) = flatMap-append (singles f n) (f n ∷ []) ∙ ap₂ (λ (x y : List B). x ++ y) (flatMap-singles f n) (append-nil (F (f n)))
+  flatMap-singles f (suc n) =
+      flatMap-append (singles f n) (f n ∷ []) ∙ ap₂ (λ (x y : List B). x ++ y) (flatMap-singles f n) (append-nil (F (f n)))

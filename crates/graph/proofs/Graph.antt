@@ -9,8 +9,35 @@ use borrow.Author.Tests.{leb-true, ltb-true, eqb-true, le-leb, lt-ltb, eq-eqb}
 use lib.Dec.{leb, ltb}
 use lib.ListN.{getD}
 use Rattle.graph.specs.Lists.{every, allBelow}
-use Rattle.graph.specs.Graph.{Net, Graph, free, size, sinks, first, second, largerFirst, gateOk, sinkOk, rules, wellFormed, IsGate, WellFormed}
-use Rattle.graph.proofs.Lists.{and-left, and-right, and-both, every-at, every-of, done, _then_, allBelow-at, allBelow-of, all-at, all-of}
+use Rattle.graph.specs.Graph.{
+  Net,
+  Graph,
+  free,
+  size,
+  sinks,
+  first,
+  second,
+  largerFirst,
+  gateOk,
+  sinkOk,
+  rules,
+  wellFormed,
+  IsGate,
+  WellFormed,
+}
+use Rattle.graph.proofs.Lists.{
+  and-left,
+  and-right,
+  and-both,
+  every-at,
+  every-of,
+  done,
+  _then_,
+  allBelow-at,
+  allBelow-of,
+  all-at,
+  all-of,
+}
 
 well-is : (g : Graph) → wellFormed g ≡ every (rules g)
 unfolding wellFormed
@@ -53,7 +80,9 @@ module _ (net : Net) where
       ap (gateOk net) q ∙ allBelow-at (λ k. gateOk net (suc (free net + k))) (size net) e (v - suc (free net)) (omega arith)
 
   gates-of : ((v : ℕ) → IsGate net v → gateOk net v ≡ true) → allBelow (λ k. gateOk net (suc (free net + k))) (size net) ≡ true
-  gates-of h = allBelow-of (λ k. gateOk net (suc (free net + k))) (size net) (λ k l. h (suc (free net + k)) (record { above = omega arith; within = omega arith }))
+  gates-of h =
+      allBelow-of (λ k. gateOk net (suc (free net + k))) (size net)
+      (λ k l. h (suc (free net + k)) (record { above = omega arith; within = omega arith }))
 
 pub well-formed : (g : Graph) → wellFormed g ≡ true → WellFormed g
 unfolding rules sinkOk

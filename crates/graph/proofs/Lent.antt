@@ -32,7 +32,8 @@ no-room-iff g b =
     sides (few-gate-words h) = inl h
     sides (few-output-words h) = inr h
 
-pub room-for : (g : Graph) (b : Buffers) → length (g .net .gates) ≤ length (b .gates) → length (g .outputs) ≤ length (b .outputs) → noRoomFor g b ≡ false
+pub room-for : (g : Graph) (b : Buffers) → length (g .net .gates) ≤ length (b .gates) → length (g .outputs) ≤ length (b .outputs)
+    → noRoomFor g b ≡ false
 unfolding noRoomFor short
 room-for g b gates-fit outputs-fit = rw (le-ltb _ _ gates-fit, le-ltb _ _ outputs-fit)
 
@@ -44,7 +45,8 @@ laid-sets at xs l room = sym (sets-eq xs l at room)
 
 sets-append : (xs ys l : List ℕ) (at : ℕ) → sets (sets l at xs) (at + length xs) ys ≡ sets l at (xs ++ ys)
 sets-append [] ys l at = let e : at + 0 ≡ at = omega arith in rw e
-sets-append (x ∷ xs) ys l at = let e : at + suc (length xs) ≡ suc at + length xs = omega arith in rw e (sets-append xs ys (set l at x) (suc at))
+sets-append (x ∷ xs) ys l at =
+    let e : at + suc (length xs) ≡ suc at + length xs = omega arith in rw e (sets-append xs ys (set l at x) (suc at))
 
 -- the last element is stored first
 sets-last : (xs l : List ℕ) (at x : ℕ) → sets (set l (at + length xs) x) at xs ≡ sets l at (xs ++ (x ∷ []))
@@ -53,7 +55,8 @@ sets-last (y ∷ xs) l at x =
     let e : at + suc (length xs) ≡ suc at + length xs = omega arith in
     rw (set-comm l (at + suc (length xs)) at x y (λ q. omega arith), e) (sets-last xs (set l at y) (suc at) x)
 
-pub laid-last : (at : ℕ) (xs : List ℕ) (x : ℕ) (l : List ℕ) → at + length xs < length l → laid at xs (set l (at + length xs) x) ≡ laid at (xs ++ (x ∷ [])) l
+pub laid-last : (at : ℕ) (xs : List ℕ) (x : ℕ) (l : List ℕ) → at + length xs < length l
+    → laid at xs (set l (at + length xs) x) ≡ laid at (xs ++ (x ∷ [])) l
 laid-last at xs x l room =
     laid-sets at xs (set l (at + length xs) x) (simp length-set (omega arith))
     ∙ sets-last xs l at x
@@ -87,14 +90,16 @@ put-then at xs ys before {next} {after} room put p =
           ∙ sym (laid-sets at (xs ++ ys) before (omega (arith, length-append xs ys))),
     )
 
-pub put-byte-then : (at : ℕ) (xs : List ℕ) (byte : ℕ) (before : List ℕ) {next : ℕ} {after : List ℕ} → next < length before → Put at xs before next after
+pub put-byte-then : (at : ℕ) (xs : List ℕ) (byte : ℕ) (before : List ℕ) {next : ℕ} {after : List ℕ} → next < length before
+    → Put at xs before next after
     → Put at (xs ++ (byte ∷ [])) before (next + 1) (set after next byte)
 put-byte-then at xs byte before {next} {after} room put =
     let kept = put-length at xs before (omega arith) put in
     put-then at xs (byte ∷ []) before (omega arith) put (put-bytes next (byte ∷ []) after (omega arith))
 
 -- the whole of what is laid from the first byte on
-pub put-front : {xs ys : List ℕ} (before : List ℕ) → xs ≡ ys → {next : ℕ} {after : List ℕ} → Put 0 xs before next after → (next ≡ length ys) × (after ≡ laid 0 ys before)
+pub put-front : {xs ys : List ℕ} (before : List ℕ) → xs ≡ ys → {next : ℕ} {after : List ℕ} → Put 0 xs before next after
+    → (next ≡ length ys) × (after ≡ laid 0 ys before)
 put-front before e put = (omega (arith, put .0, ap length e), put .1 ∙ ap (λ (zs : List ℕ). laid 0 zs before) e)
 
 -- ---- pieces laid one after another
@@ -105,7 +110,8 @@ pub record Pieces (f : ℕ → List ℕ) (n at : ℕ) (before : List ℕ) (k nex
   pub within : k ≤ n
   pub put : Put at (gather f k) before next after
 
-pub pieces-none : (f : ℕ → List ℕ) (n at : ℕ) (before : List ℕ) → at + length (gather f n) ≤ length before → Pieces f n at before 0 at before
+pub pieces-none : (f : ℕ → List ℕ) (n at : ℕ) (before : List ℕ) → at + length (gather f n) ≤ length before
+    → Pieces f n at before 0 at before
 unfolding gather
 pieces-none f n at before room = record { room = room; within = zero-le; put = (omega arith, put-bytes at [] before (omega arith) .1) }
 
@@ -126,13 +132,15 @@ module _ {f : ℕ → List ℕ} {n at : ℕ} {before : List ℕ} {k next : ℕ} 
 
     pub piece-then : {end : ℕ} {final : List ℕ} → Put next (f k) after end final → Pieces f n at before (k + 1) end final
     unfolding gather
-    piece-then q = record { room = p .room; within = omega arith; put = rw (add-one k) (put-then at (gather f k) (f k) before piece-fits (p .put) q) }
+    piece-then q =
+        record { room = p .room; within = omega arith; put = rw (add-one k) (put-then at (gather f k) (f k) before piece-fits (p .put) q) }
 
 -- ---- words stored from a place on
 
 module _ (at : ℕ) (lent : List ℕ) where
   -- a gate's words, stored side by side
-  pub laid-gate : (a b x y : ℕ) → at + 1 < length lent → x ≡ max a b → y ≡ min a b → set (set lent at x) (at + 1) y ≡ laid at (largerFirst a b) lent
+  pub laid-gate : (a b x y : ℕ) → at + 1 < length lent → x ≡ max a b → y ≡ min a b
+      → set (set lent at x) (at + 1) y ≡ laid at (largerFirst a b) lent
   unfolding largerFirst
   laid-gate a b x y h p q = rw (add-one, sym p, sym q) (put-bytes at (x ∷ y ∷ []) lent (omega arith) .1)
 
@@ -149,7 +157,8 @@ module _ (xs lent : List ℕ) where
   unfolding written
   written-is n h = let e : length (take n xs) ≡ 0 + n = length-take-le n xs h ∙ omega arith in ap (λ (m : ℕ). take n xs ++ drop m lent) e
 
-  pub written-more : (k : ℕ) → k < length xs → k < length lent → set (written (take k xs) lent) k (getD xs k 0) ≡ written (take (k + 1) xs) lent
+  pub written-more : (k : ℕ) → k < length xs → k < length lent
+      → set (written (take k xs) lent) k (getD xs k 0) ≡ written (take (k + 1) xs) lent
   written-more k h l =
       let place : k ≡ 0 + k = omega arith in
       rw (add-one, written-is k (omega arith), written-is (suc k) h)

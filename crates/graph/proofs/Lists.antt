@@ -118,7 +118,8 @@ module _ {A : Type 0} (f : A → Bool) where
   keep-append (x ∷ xs) ys = go (f x) (keep-append xs ys)
     where
       go : (b : Bool) → keep f (xs ++ ys) ≡ keep f xs ++ keep f ys
-          → elim b [ true ↦ x ∷ keep f (xs ++ ys) | false ↦ keep f (xs ++ ys) ] ≡ elim b [ true ↦ x ∷ keep f xs | false ↦ keep f xs ] ++ keep f ys
+          → elim b [ true ↦ x ∷ keep f (xs ++ ys) | false ↦ keep f (xs ++ ys) ]
+          ≡ elim b [ true ↦ x ∷ keep f xs | false ↦ keep f xs ] ++ keep f ys
       go true e = ap (λ (zs : List A). x ∷ zs) e
       go false e = e
 

@@ -87,13 +87,15 @@ module _ (net : Net) (v : ℕ) where
   fanins-length ms = ⊎-elim (λ m. rw (fanins-on ms m) (each-length fanins ms)) (λ m. rw (fanins-off ms m)) (true-or-false (getD ms v false))
 
   pub fanins-keep : (ms : List Bool) (u : ℕ) → Marked ms u → Marked (markFanins net v ms) u
-  fanins-keep ms u k = ⊎-elim (λ m. rw (fanins-on ms m) (each-keeps fanins ms u k)) (λ m. rw (fanins-off ms m) k) (true-or-false (getD ms v false))
+  fanins-keep ms u k =
+      ⊎-elim (λ m. rw (fanins-on ms m) (each-keeps fanins ms u k)) (λ m. rw (fanins-off ms m) k) (true-or-false (getD ms v false))
 
   pub first-marked : (ms : List Bool) → Marked ms v → varOf (first net v) < length ms → Marked (markFanins net v ms) (varOf (first net v))
   unfolding fanins
   first-marked ms m b = rw (fanins-on ms m) (each-marks fanins ms 0 (omega arith) b)
 
-  pub second-marked : (ms : List Bool) → Marked ms v → varOf (second net v) < length ms → Marked (markFanins net v ms) (varOf (second net v))
+  pub second-marked : (ms : List Bool) → Marked ms v → varOf (second net v) < length ms
+      → Marked (markFanins net v ms) (varOf (second net v))
   unfolding fanins
   second-marked ms m b = rw (fanins-on ms m) (each-marks fanins ms 1 (omega arith) b)
 

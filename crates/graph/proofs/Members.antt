@@ -106,6 +106,7 @@ module _ {A B : Type 0} (f : A → B) where
   keep-map h (x ∷ xs) = go (h (f x)) (keep-map h xs)
     where
       go : (b : Bool) → keep h (map f xs) ≡ map f (keep (λ x. h (f x)) xs)
-          → elim b [ true ↦ f x ∷ keep h (map f xs) | false ↦ keep h (map f xs) ] ≡ map f (elim b [ true ↦ x ∷ keep (λ x. h (f x)) xs | false ↦ keep (λ x. h (f x)) xs ])
+          → elim b [ true ↦ f x ∷ keep h (map f xs) | false ↦ keep h (map f xs) ]
+          ≡ map f (elim b [ true ↦ x ∷ keep (λ x. h (f x)) xs | false ↦ keep (λ x. h (f x)) xs ])
       go true r = ap (λ (ys : List B). f x ∷ ys) r
       go false r = r

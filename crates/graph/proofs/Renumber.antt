@@ -95,7 +95,8 @@ module _ (net : Net) (ms : List Bool) where
   number-less u v h l m =
       let e : var (v - suc (free net)) ≡ v = unfold var in omega arith in
       let n = number-at (v - suc (free net)) (subst (Marked ms) (sym e) m) in
-      let b : newNumber net ms v ≡ suc (free net + count (v - suc (free net))) = subst (λ (x : ℕ). newNumber net ms x ≡ suc (free net + count (v - suc (free net)))) e n in
+      let b : newNumber net ms v ≡ suc (free net + count (v - suc (free net))) =
+      subst (λ (x : ℕ). newNumber net ms x ≡ suc (free net + count (v - suc (free net)))) e n in
       ⊎-elim
       (λ k. omega (arith, number-low u k))
       (λ k. let c = count-mono (u - free net) (v - suc (free net)) (omega arith) in omega (arith, number-high u k))
@@ -139,7 +140,8 @@ module _ (net : Net) (ms : List Bool) where
 
   -- a marked gate's words stand behind those of the marked gates before it
   kept-at : (k i : ℕ) → k < size net → i < 2 → Marked ms (var k)
-      → getD (keptNet net ms .gates) (2 * count k + i) 0 ≡ getD (renumbered net ms (first net (var k)) ∷ renumbered net ms (second net (var k)) ∷ []) i 0
+      → getD (keptNet net ms .gates) (2 * count k + i) 0
+      ≡ getD (renumbered net ms (first net (var k)) ∷ renumbered net ms (second net (var k)) ∷ []) i 0
   unfolding keptNet pieces var
   kept-at k i h b m =
       ap (λ (j : ℕ). getD (keptNet net ms .gates) (j + i) 0) (sym (pieces-length k))
@@ -170,7 +172,9 @@ module _ (net : Net) (ms : List Bool) where
     unfolding count
     kept-gate = record {
       above = unfold keptNet in omega (arith, number-is);
-      within = let s = kept-size in let c = count-mono (suc k-of) (size net) k-low in unfold keptNet in omega (arith, number-is, count-on k-of m-at);
+      within =
+          let s = kept-size in let c = count-mono (suc k-of) (size net) k-low in unfold keptNet in
+          omega (arith, number-is, count-on k-of m-at);
     }
 
     pub kept-first : first (keptNet net ms) (newNumber net ms v) ≡ renumbered net ms (first net v)

@@ -42,7 +42,8 @@ module _ (net : Net) (a : ℕ → Bool) where
       ap (literalUnder net a) q ∙ ap (λ (b : Bool). turned bools b (literalUnder net a s)) (sym (even l e)))
       (λ o.
       ⊎-elim
-      (λ e. literal-is true (flip s l) (varOf s) (odd (flip s l) (omega arith)) (omega arith) ∙ ap not (sym (literal-is false s (varOf s) (even s e) refl)))
+      (λ e. literal-is true (flip s l) (varOf s) (odd (flip s l) (omega arith)) (omega arith)
+      ∙ ap not (sym (literal-is false s (varOf s) (even s e) refl)))
       (λ e.
       literal-is false (flip s l) (varOf s) (even (flip s l) (omega arith)) (omega arith)
       ∙ sym (Bool·not-not (valueUnder net a (varOf s)))
@@ -77,10 +78,14 @@ module _ (net net′ : Net) (stand : ℕ → ℕ) where
     copy-carries v u l f s l′ f′ s′ c cf cs = value-gate net′ a u l′ f′ s′ ∙ both c ∙ sym (value-gate net a v l f s)
       where
         both : Copies v u
-            → literalUnder net′ a (first net′ u) && literalUnder net′ a (second net′ u) ≡ literalUnder net a (first net v) && literalUnder net a (second net v)
-        both (in-order p q) = ap₂ _&&_ (ap (literalUnder net′ a) p ∙ literal-carries (first net v) cf) (ap (literalUnder net′ a) q ∙ literal-carries (second net v) cs)
+            → literalUnder net′ a (first net′ u) && literalUnder net′ a (second net′ u)
+            ≡ literalUnder net a (first net v) && literalUnder net a (second net v)
+        both (in-order p q) =
+            ap₂ _&&_ (ap (literalUnder net′ a) p ∙ literal-carries (first net v) cf)
+            (ap (literalUnder net′ a) q ∙ literal-carries (second net v) cs)
         both (exchanged p q) =
-            ap₂ _&&_ (ap (literalUnder net′ a) p ∙ literal-carries (second net v) cs) (ap (literalUnder net′ a) q ∙ literal-carries (first net v) cf)
+            ap₂ _&&_ (ap (literalUnder net′ a) p ∙ literal-carries (second net v) cs)
+            (ap (literalUnder net′ a) q ∙ literal-carries (first net v) cf)
             ∙ and-comm (literalUnder net a (second net v)) (literalUnder net a (first net v))
 
     -- inputs stand for themselves; if a gate's value carries over once those of all lower variables do, all that count carry over
@@ -88,7 +93,8 @@ module _ (net net′ : Net) (stand : ℕ → ℕ) where
         → ((v : ℕ) → free net < v → counts v → ((u : ℕ) → u < v → counts u → Carries u) → Carries v)
         → (v : ℕ) → counts v → Carries v
     all-carry counts same low gate = strong (λ v. counts v → Carries v) (λ c. input 0 (omega arith))
-        (λ n below c. ⊎-elim (λ l. input (suc n) l) (λ l. gate (suc n) l c (λ u b. below u (omega arith))) (at-most-or-above (suc n) (free net)))
+        (λ n below c. ⊎-elim (λ l. input (suc n) l) (λ l. gate (suc n) l c (λ u b. below u (omega arith)))
+        (at-most-or-above (suc n) (free net)))
       where
         input : (v : ℕ) → v ≤ free net → Carries v
         input zero h = ap (literalUnder net′ a) (low 0 h) ∙ plain-value net′ a 0 ∙ value-zero net′ a ∙ sym (value-zero net a)

@@ -1,4 +1,4 @@
--- Laws of the sweep, over any kind of value.
+-- Laws of the sweep, over any algebra.
 -- Assumes nothing.
 use mathlib.Core.Path.{_≡_, refl, sym, ap, ap₂, _∙_}
 use mathlib.Core.Bool.{Bool, true, false, cond}
@@ -26,7 +26,8 @@ module _ {A : Type 0} (K : Algebra A) (own : ℕ → Option A) (net : Net) where
   values-length (suc n) = simp length-append (omega (arith, values-length n))
 
   -- the highest variable has its own value or its gate's
-  pub values-top : (n : ℕ) (d : A) → getD (values K own net (suc n)) (suc n) d ≡ Option·getD (own (suc n)) (byGate K net (suc n) (values K own net n))
+  pub values-top : (n : ℕ) (d : A)
+      → getD (values K own net (suc n)) (suc n) d ≡ Option·getD (own (suc n)) (byGate K net (suc n) (values K own net n))
   unfolding values
   values-top n d = getD-at (values K own net n) _ [] d (suc n) (values-length n)
 
@@ -65,7 +66,8 @@ module _ {A : Type 0} (K : Algebra A) (own : ℕ → Option A) (net : Net) (n : 
   own-value x e = values-top K own net n (K .no) ∙ ap (λ (o : Option A). Option·getD o (byGate K net (suc n) (values K own net n))) e
 
   pub gate-value : own (suc n) ≡ none → free net < suc n
-      → valueAt K own net (suc n) ≡ K .conj (litValue K (values K own net n) (first net (suc n))) (litValue K (values K own net n) (second net (suc n)))
+      → valueAt K own net (suc n)
+      ≡ K .conj (litValue K (values K own net n) (first net (suc n))) (litValue K (values K own net n) (second net (suc n)))
   unfolding valueAt
   gate-value e h =
       values-top K own net n (K .no)
@@ -91,7 +93,12 @@ module _ {A : Type 0} (K : Algebra A) (net net′ : Net) where
 
   fewer : {m n : ℕ} → m ≤ n → SameUpTo net net′ n → SameUpTo net net′ m
   fewer h s =
-      record { same-free = s .same-free; same-first = λ v l k. s .same-first v l (omega arith); same-second = λ v l k. s .same-second v l (omega arith) }
+      record {
+        same-free = s .same-free;
+        same-first = λ v l k. s .same-first v l (omega arith);
+        same-second = λ v l k. s .same-second v l
+            (omega arith);
+      }
 
   pub values-same : (own own′ : ℕ → Option A) (n : ℕ) → SameUpTo net net′ n → ((v : ℕ) → v ≤ n → own v ≡ own′ v)
       → values K own net n ≡ values K own′ net′ n

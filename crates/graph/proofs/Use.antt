@@ -13,9 +13,32 @@ use lib.ListN.{length, getD, replicate, length-append, length-replicate}
 use Rattle.graph.specs.Lists.{gather, keep}
 use Rattle.graph.specs.Literal.{varOf}
 use Rattle.graph.specs.Graph.{Graph, free, size, last, sinks, first, second, IsGate, Lawful}
-use Rattle.graph.specs.Use.{Reached, as-output, as-first, as-second, InUse, markEach, markFanins, markDown, marks, inUse, countMarks, usedGates}
+use Rattle.graph.specs.Use.{
+  Reached,
+  as-output,
+  as-first,
+  as-second,
+  InUse,
+  markEach,
+  markFanins,
+  markDown,
+  marks,
+  inUse,
+  countMarks,
+  usedGates,
+}
 use Rattle.graph.proofs.Lists.{at-most-or-above, and-left, and-right, and-both, same-tests, keep-append, kept-one}
-use Rattle.graph.proofs.Marks.{Marked, each-length, each-marks, each-only, fanins-length, fanins-keep, first-marked, second-marked, fanins-only}
+use Rattle.graph.proofs.Marks.{
+  Marked,
+  each-length,
+  each-marks,
+  each-only,
+  fanins-length,
+  fanins-keep,
+  first-marked,
+  second-marked,
+  fanins-only,
+}
 
 none-marked : (n v : ℕ) → ¬ Marked (replicate n false) v
 none-marked zero v m = false≢true m
@@ -73,7 +96,8 @@ module _ (g : Graph) where
     second-lower v i = let b = ok .below v i in let o = ok .ordered v i in omega arith
 
     -- the pass over the gates up to the k-th marks nothing above them
-    down-low : (k : ℕ) (ms : List Bool) (u : ℕ) → k ≤ size (g .net) → free (g .net) + k ≤ u → Marked (markDown (g .net) k ms) u → Marked ms u
+    down-low : (k : ℕ) (ms : List Bool) (u : ℕ) → k ≤ size (g .net) → free (g .net) + k ≤ u → Marked (markDown (g .net) k ms) u
+        → Marked ms u
     unfolding markDown var
     down-low zero ms u h l m = m
     down-low (suc k) ms u h l m = ⊎-elim
@@ -84,8 +108,10 @@ module _ (g : Graph) where
         (fanins-only (g .net) (var k) ms u (down-low k _ u (omega arith) (omega arith) m))
 
     -- afterwards the fanins of each marked gate are marked
-    pub down-closed : (k : ℕ) (ms : List Bool) → k ≤ size (g .net) → last (g .net) < length ms → (v : ℕ) → free (g .net) < v → v ≤ free (g .net) + k
-        → Marked (markDown (g .net) k ms) v → Marked (markDown (g .net) k ms) (varOf (first (g .net) v)) × Marked (markDown (g .net) k ms) (varOf (second (g .net) v))
+    pub down-closed : (k : ℕ) (ms : List Bool) → k ≤ size (g .net) → last (g .net) < length ms → (v : ℕ) → free (g .net) < v
+        → v ≤ free (g .net) + k
+        → Marked (markDown (g .net) k ms) v
+        → Marked (markDown (g .net) k ms) (varOf (first (g .net) v)) × Marked (markDown (g .net) k ms) (varOf (second (g .net) v))
     unfolding markDown var
     down-closed zero ms h b v l t m = absurd (omega arith)
     down-closed (suc k) ms h b v l t m = ⊎-elim
@@ -93,7 +119,9 @@ module _ (g : Graph) where
         (λ q.
         let e : var k ≡ v = omega arith in
         let i = subst (IsGate (g .net)) e (var-gate k h) in
-        let n : Marked ms v = ⊎-elim (λ s. s) (λ s. subst (Marked ms) e (s .0)) (fanins-only (g .net) (var k) ms v (down-low k _ v (omega arith) (omega arith) m)) in
+        let n : Marked ms v =
+        ⊎-elim (λ s. s) (λ s. subst (Marked ms) e (s .0))
+        (fanins-only (g .net) (var k) ms v (down-low k _ v (omega arith) (omega arith) m)) in
         let f = first-lower v i in
         let s = second-lower v i in
         let w = i .within in
@@ -106,7 +134,8 @@ module _ (g : Graph) where
         → Marked (marks g) (varOf (first (g .net) v)) × Marked (marks g) (varOf (second (g .net) v))
     unfolding marks
     fanins-are-marked v i m =
-        down-closed (size (g .net)) _ (le-refl _) (omega (arith, each-length (sinks g) (replicate (suc (last (g .net))) false), length-replicate (suc (last (g .net))) false)) v
+        down-closed (size (g .net)) _ (le-refl _)
+        (omega (arith, each-length (sinks g) (replicate (suc (last (g .net))) false), length-replicate (suc (last (g .net))) false)) v
         (i .above) (i .within) m
 
     pub outputs-are-marked : (j : ℕ) → j < length (sinks g) → Marked (marks g) (varOf (getD (sinks g) j 0))

@@ -1,5 +1,5 @@
--- The values of the variables, over any kind of value with an AND and a complement.
--- Evaluation, coverage, local functions and tables are this one sweep, each over its own kind.
+-- The values of the variables, over any algebra: what variable 0 has, an AND and a complement.
+-- Evaluation, coverage, local functions and tables are this one sweep, each over its own algebra.
 -- Assumes nothing.
 use Prim.Native.Nat.{ℕ, zero, suc}
 use mathlib.Core.Bool.{Bool, true, false, cond, not, _&&_}
@@ -10,7 +10,7 @@ use lib.ListN.{getD}
 use Rattle.graph.specs.Literal.{varOf, isOdd}
 use Rattle.graph.specs.Graph.{Net, free, first, second}
 
--- a kind of value: what variable 0 has, the AND, the complement
+-- an algebra: what variable 0 has, the AND, the complement
 pub record Algebra (A : Type 0) : Type 0 where
   pub no : A
   pub conj : A → A → A

@@ -42,7 +42,8 @@ module _ (root : ℕ) where
   unfolding candidates
   literal-in l h = in-left (ands root) (in-gather (λ l. literal l ∷ []) (2 * root) l (literal l) h (here refl))
 
-same-proposal : (p q : Proposal) → p .kind ≡ q .kind → p .first .0 ≡ q .first .0 → p .second .0 ≡ q .second .0 → p .turned ≡ q .turned → p ≡ q
+same-proposal : (p q : Proposal) → p .kind ≡ q .kind → p .first .0 ≡ q .first .0 → p .second .0 ≡ q .second .0 → p .turned ≡ q .turned
+    → p ≡ q
 same-proposal p q e f s t = λ i. record { kind = e i; first = record { 0 = f i }; second = record { 0 = s i }; turned = t i }
 
 pub allowed-in : (net : Net) (root : ℕ) (w : Leaves) (p : Proposal) → Allowed net root w p → p ∈ candidates root
@@ -84,12 +85,14 @@ module _ (g : Graph) (root : ℕ) where
   from-sorted : (a : ℕ) → Sorted (Earlier g root) (andsFrom root a)
   unfolding candidateOf
   from-sorted a =
-      sorted-gather _ (andsOver a) (2 * root) (over-sorted a) (λ i j h. each-over _ a i (λ c. each-over _ a j (λ d. same-then refl (same-then refl (differs h)))))
+      sorted-gather _ (andsOver a) (2 * root) (over-sorted a)
+      (λ i j h. each-over _ a i (λ c. each-over _ a j (λ d. same-then refl (same-then refl (differs h)))))
 
   ands-sorted : Sorted (Earlier g root) (ands root)
   unfolding candidateOf
   ands-sorted =
-      sorted-gather _ (andsFrom root) (2 * root) from-sorted (λ i j h. each-from _ root i (λ b c. each-from _ root j (λ d e. same-then refl (differs h))))
+      sorted-gather _ (andsFrom root) (2 * root) from-sorted
+      (λ i j h. each-from _ root i (λ b c. each-from _ root j (λ d e. same-then refl (differs h))))
 
   pub candidates-sorted : Sorted (Earlier g root) (candidates root)
   unfolding candidates candidateOf

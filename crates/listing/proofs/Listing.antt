@@ -52,11 +52,14 @@ module _ (g : Graph) (root : ℕ) (w : Leaves) where
   record-good : (x : Candidate) → GoodRecord g root w x → good g root w (proposalOf x) ≡ true
   unfolding good equalTables sameTable
   record-good x r =
-      and-both _ _ (allowed-iff (g .net) root w (proposalOf x) .1 (r .keeps-rule)) (and-both _ _ (eq-eqb _ _ (r .equals)) (positive-gain _ (x .gain) (r .gain-is) (r .at-least-one)))
+      and-both _ _ (allowed-iff (g .net) root w (proposalOf x) .1 (r .keeps-rule))
+      (and-both _ _ (eq-eqb _ _ (r .equals)) (positive-gain _ (x .gain) (r .gain-is) (r .at-least-one)))
 
   record-is : (x : Candidate) → GoodRecord g root w x → x ≡ candidateOf g root (proposalOf x)
   unfolding candidateOf
-  record-is x r = ap (λ (z : ℤ). record { kind = x .kind; first = x .first; second = x .second; turned = x .turned; gain = natAbs z }) (sym (r .gain-is))
+  record-is x r =
+      ap (λ (z : ℤ). record { kind = x .kind; first = x .first; second = x .second; turned = x .turned; gain = natAbs z })
+      (sym (r .gain-is))
 
   listed-good : Each (GoodRecord g root w) (listed g root w)
   unfolding listed
@@ -69,7 +72,8 @@ module _ (g : Graph) (root : ℕ) (w : Leaves) where
   good-listed x r =
       let p = proposalOf x in
       in-same (record-is x r)
-      (in-map (candidateOf g root) (in-keep (good g root w) (candidates root) (allowed-in (g .net) root w p (r .keeps-rule)) (record-good x r)))
+      (in-map (candidateOf g root)
+      (in-keep (good g root w) (candidates root) (allowed-in (g .net) root w p (r .keeps-rule)) (record-good x r)))
 
 -- ---- the list
 
@@ -91,4 +95,5 @@ no-members (x ∷ xs) h = absurd (h x (here refl))
 
 -- the list is empty if and only if there is no good replacement
 pub list-empty-iff : (g : Graph) (root : ℕ) (w : Leaves) → (listed g root w ≡ []) ↔ ((x : Candidate) → ¬ GoodRecord g root w x)
-list-empty-iff g root w = (λ e x r. none-in (rw e at (good-listed g root w x r)), λ h. no-members (listed g root w) (λ x m. h x (listed-good g root w x m)))
+list-empty-iff g root w =
+    (λ e x r. none-in (rw e at (good-listed g root w x r)), λ h. no-members (listed g root w) (λ x m. h x (listed-good g root w x m)))

@@ -28,7 +28,8 @@ pub data ListGiven (g : Graph) (root : ℕ) (w : Leaves) (lent : List Candidate)
 -- NO ROOM also returns the record count needed
 unfoldable pub withList : List Candidate → List Candidate → Effect Listed (List Candidate)
 unfolding short written
-withList xs lent = cond (short (length xs) lent) (Listed.NoRoom (length xs) leaving lent) (Listed.Records (length xs) leaving written xs lent)
+withList xs lent =
+    cond (short (length xs) lent) (Listed.NoRoom (length xs) leaving lent) (Listed.Records (length xs) leaving written xs lent)
 
 unfoldable pub listEffect : Graph → ℕ → Leaves → List Candidate → Effect Listed (List Candidate)
 unfolding windowRefusals firstRefusal listed withList

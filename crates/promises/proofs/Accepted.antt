@@ -96,7 +96,8 @@ module _ (g : Graph) (lent : List ℕ) (accepted : (writtenOutcome ((writeEffect
   write-none = none-shown (firstRefusal (writeRefusals g lent)) _ (λ q e. rw (e, writeEffect)) accepted
 
   pub write-stores-text :
-      WellFormed g × ((writeEffect g lent) .answer ≡ WrittenText.Bytes (length (textOf g))) × Stored (textOf g) lent ((writeEffect g lent) .lent)
+      WellFormed g × ((writeEffect g lent) .answer ≡ WrittenText.Bytes (length (textOf g)))
+      × Stored (textOf g) lent ((writeEffect g lent) .lent)
   unfolding writeEffect
   write-stores-text =
       let ok = decided _ (well-formed-iff g) (λ n. write-answers g lent .accepts .0 accepted BadGraph (WriteGiven.bad-graph n)) in
@@ -160,7 +161,8 @@ module _ (g : Graph) (root : ℕ) (w : Leaves) (accepted : (tableOutcome (tableA
 
 -- ---- listing
 
-module _ (g : Graph) (root : ℕ) (w : Leaves) (lent : List Candidate) (accepted : (listedOutcome ((listEffect g root w lent) .answer)) .number ≡ 0) where
+module _ (g : Graph) (root : ℕ) (w : Leaves) (lent : List Candidate)
+    (accepted : (listedOutcome ((listEffect g root w lent) .answer)) .number ≡ 0) where
   list-none : (firstRefusal (windowRefusals g root w) ≡ none) × (short (length (listed g root w)) lent ≡ false)
   unfolding listEffect listedOutcome withList
   list-none = go (firstRefusal (windowRefusals g root w)) refl (short (length (listed g root w)) lent) refl
@@ -181,7 +183,8 @@ module _ (g : Graph) (root : ℕ) (w : Leaves) (lent : List Candidate) (accepted
 
 -- ---- applying a proposal
 
-module _ (g : Graph) (root : ℕ) (w : Leaves) (p : Proposal) (b : Buffers) (accepted : (appliedOutcome ((applyEffect g root w p b) .answer)) .number ≡ 0) where
+module _ (g : Graph) (root : ℕ) (w : Leaves) (p : Proposal) (b : Buffers)
+    (accepted : (appliedOutcome ((applyEffect g root w p b) .answer)) .number ≡ 0) where
   pub apply-stores-finished :
       ((applyEffect g root w p b) .answer ≡ Applied.Graph (size (finished g root p .net)) (length (finished g root p .outputs)))
       × Holds (finished g root p) b ((applyEffect g root w p b) .lent)
@@ -190,7 +193,8 @@ module _ (g : Graph) (root : ℕ) (w : Leaves) (p : Proposal) (b : Buffers) (acc
   unfolding applyEffect
   apply-stores-finished =
       let kept = replacement-keeps g root w p b accepted in
-      rw (apply-none-given g root w p b accepted, applyEffect) (refl, holds-stored (finished g root p) b (kept .well-formed), kept, replacement-saves-gates g root w p b accepted)
+      rw (apply-none-given g root w p b accepted, applyEffect)
+      (refl, holds-stored (finished g root p) b (kept .well-formed), kept, replacement-saves-gates g root w p b accepted)
 
 -- ---- the run
 

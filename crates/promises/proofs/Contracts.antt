@@ -27,10 +27,12 @@ use Rattle.promises.proofs.Accepted.{read-stores-stated, write-stores-t
 one-effect : {A L : Type 0} {e : Effect A L} (r s : A) (x y : L) → r leaving x ≡ e → s leaving y ≡ e → (r ≡ s) × (x ≡ y)
 one-effect {A} {L} r s x y p q = let same = p ∙ sym q in (ap (λ (e : Effect A L). e .answer) same, ap (λ (e : Effect A L). e .lent) same)
 
-pub read-has-one-result : (t : List ℕ) (b : Buffers) (r s : ReadText) (x y : Buffers) → r leaving x ≡ readEffect t b → s leaving y ≡ readEffect t b → (r ≡ s) × (x ≡ y)
+pub read-has-one-result : (t : List ℕ) (b : Buffers) (r s : ReadText) (x y : Buffers) → r leaving x ≡ readEffect t b
+    → s leaving y ≡ readEffect t b → (r ≡ s) × (x ≡ y)
 read-has-one-result t b = one-effect
 
-pub write-has-one-result : (g : Graph) (lent : List ℕ) (r s : WrittenText) (x y : List ℕ) → r leaving x ≡ writeEffect g lent → s leaving y ≡ writeEffect g lent
+pub write-has-one-result : (g : Graph) (lent : List ℕ) (r s : WrittenText) (x y : List ℕ) → r leaving x ≡ writeEffect g lent
+    → s leaving y ≡ writeEffect g lent
     → (r ≡ s) × (x ≡ y)
 write-has-one-result g lent = one-effect
 
@@ -39,10 +41,12 @@ write-has-one-result g lent = one-effect
 -- r and after are what reading t with b lent came to
 module _ (t : List ℕ) (b after : Buffers) (r : ReadText) (met : r leaving after ≡ readEffect t b) where
   -- a text that states a graph within the limits is read as that graph, where there is room for it
-  module _ (g : Graph) (stated : Stated t g) (gates-fit : length (g .net .gates) ≤ length (b .gates)) (outputs-fit : length (g .outputs) ≤ length (b .outputs)) where
+  module _ (g : Graph) (stated : Stated t g) (gates-fit : length (g .net .gates) ≤ length (b .gates))
+      (outputs-fit : length (g .outputs) ≤ length (b .outputs)) where
     pub stated-is-read : (r ≡ ReadText.Graph (g .net .inputs) (size (g .net)) (length (g .outputs))) × Holds g b after
     stated-is-read =
-        let (answer, lent-after) = one-effect _ _ _ _ (met ∙ reads-graph t b g (reading-iff t g .1 stated) (room-for g b gates-fit outputs-fit)) refl in
+        let (answer, lent-after) =
+        one-effect _ _ _ _ (met ∙ reads-graph t b g (reading-iff t g .1 stated) (room-for g b gates-fit outputs-fit)) refl in
         (answer, rw lent-after (holds-stored g b (stated .well-formed)))
 
   -- and nothing else is read
@@ -54,7 +58,8 @@ module _ (t : List ℕ) (b after : Buffers) (r : ReadText) (met : r leaving afte
     unfolding readOutcome
     number-is = rw answer-is
 
-    pub read-was-stated : (g : Graph) × Stated t g × (ReadText.Graph i a o ≡ ReadText.Graph (g .net .inputs) (size (g .net)) (length (g .outputs))) × Holds g b after
+    pub read-was-stated : (g : Graph) × Stated t g
+        × (ReadText.Graph i a o ≡ ReadText.Graph (g .net .inputs) (size (g .net)) (length (g .outputs))) × Holds g b after
     read-was-stated =
         let (g, stated, answer, holds) = read-stores-stated t b number-is in
         (g, stated, sym answer-is ∙ answer, subst⁻¹ (Holds g b) (ap (λ (e : Effect ReadText Buffers). e .lent) met) holds)
@@ -99,7 +104,8 @@ unfolding readBack
 not-read-back g lent bytes q b refused-now = ap (λ (e : Effect WrittenText (List ℕ)). readBack e b) refused-now
 
 -- a well-formed graph with room for its text is not refused
-pub written-with-room : (g : Graph) (lent bytes : List ℕ) (q : Refusal) → WrittenText.Refused q leaving bytes ≡ writeEffect g lent → WellFormed g
+pub written-with-room : (g : Graph) (lent bytes : List ℕ) (q : Refusal) → WrittenText.Refused q leaving bytes ≡ writeEffect g lent
+    → WellFormed g
     → length (textOf g) ≤ length lent → ⊥
 unfolding writtenOutcome
 written-with-room g lent bytes q refused-now ok fits =

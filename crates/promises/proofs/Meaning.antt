@@ -13,7 +13,16 @@ use Rattle.graph.specs.Evaluate.{outputsUnder}
 use Rattle.graph.specs.Use.{Reached, InUse, inUse, usedGates}
 use Rattle.graph.specs.Drop.{dropped}
 use Rattle.graph.proofs.Use.{first-lower, second-lower, in-use-iff, used-gates-reached}
-use Rattle.graph.proofs.Drop.{AllReached, dropped-free, dropped-size, dropped-well-formed, dropped-all-reached, dropped-twice, dropped-same, dropped-uses}
+use Rattle.graph.proofs.Drop.{
+  AllReached,
+  dropped-free,
+  dropped-size,
+  dropped-well-formed,
+  dropped-all-reached,
+  dropped-twice,
+  dropped-same,
+  dropped-uses,
+}
 use Rattle.graph.proofs.DropKeeps.{dropped-keeps-outputs}
 use Rattle.text.specs.States.{States, textOf}
 use Rattle.text.specs.Reading.{Stated, mostBytes, yields, reading}
@@ -56,7 +65,8 @@ R-counts-reached-gates = used-gates-reached
 
 -- ---- what takes a graph's place
 
-keeps : (g h : Graph) → h .net .inputs ≡ g .net .inputs → ((a : ℕ → Bool) → outputsUnder h a ≡ outputsUnder g a) → WellFormed h → AllReached h → Keeps g h
+keeps : (g h : Graph) → h .net .inputs ≡ g .net .inputs → ((a : ℕ → Bool) → outputsUnder h a ≡ outputsUnder g a) → WellFormed h
+    → AllReached h → Keeps g h
 keeps g h inputs same ok all = record {
   same-inputs = inputs;
   same-outputs = same;
@@ -69,7 +79,9 @@ keeps g h inputs same ok all = record {
 -- dropping the gates not in use
 module _ (g : Graph) (ok : WellFormed g) where
   pub dropped-keeps : Keeps g (dropped g)
-  dropped-keeps = keeps g (dropped g) (dropped-free g) (dropped-keeps-outputs g (ok .lawful)) (dropped-well-formed g ok) (dropped-all-reached g (ok .lawful))
+  dropped-keeps =
+      keeps g (dropped g) (dropped-free g) (dropped-keeps-outputs g (ok .lawful)) (dropped-well-formed g ok)
+      (dropped-all-reached g (ok .lawful))
 
   pub dropped-has-R-gates : size (dropped g .net) ≡ usedGates g
   dropped-has-R-gates = dropped-size g
@@ -88,7 +100,8 @@ module _ (g : Graph) (ok : WellFormed g) where
   run-keeps = keeps g (run g .graph) (run-keeps-inputs g ok) (run-keeps-outputs g ok) (run-well-formed g ok) (run-all-reached g ok)
 
 -- an accepted replacement
-module _ (g : Graph) (root : ℕ) (w : Leaves) (p : Proposal) (b : Buffers) (accepted : (appliedOutcome ((applyEffect g root w p b) .answer)) .number ≡ 0) where
+module _ (g : Graph) (root : ℕ) (w : Leaves) (p : Proposal) (b : Buffers)
+    (accepted : (appliedOutcome ((applyEffect g root w p b) .answer)) .number ≡ 0) where
   facts : Accepted g root w p
   facts = apply-accepted g root w p b accepted
 

@@ -35,7 +35,8 @@ module _ (g : Graph) (ok : WellFormed g) (root : ℕ) (gate : IsGate (g .net) ro
   pub leaves-follow-the-rule : Follows leafLimit (g .net) (withFanins (g .net) root []) (ruleLeaves leafLimit (g .net) root)
   leaves-follow-the-rule = rule-follows g (ok .lawful) leafLimit root gate
 
-  pub rule-leads-to-one-set : (zs : List ℕ) → Follows leafLimit (g .net) (withFanins (g .net) root []) zs → zs ≡ ruleLeaves leafLimit (g .net) root
+  pub rule-leads-to-one-set : (zs : List ℕ) → Follows leafLimit (g .net) (withFanins (g .net) root []) zs
+      → zs ≡ ruleLeaves leafLimit (g .net) root
   rule-leads-to-one-set = rule-only g (ok .lawful) leafLimit root gate
 
   pub picked-leaves-cannot-be-expanded : (v : ℕ) → v ∈ leafList (picked (g .net) root) → free (g .net) < v

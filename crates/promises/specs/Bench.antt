@@ -57,7 +57,8 @@ bench =
     -- P6 to P8: another table, no gain, no cut
     ∷ applyCall e1 4 (leavesOf (1 ∷ 2 ∷ [])) (literal 2) (buffers 0 0) gives (13 ∷ [])
     ∷ applyCall e1 4 (leavesOf (1 ∷ 2 ∷ [])) (andGate 6 2 0) (buffers 0 0) gives (14 ∷ [])
-    ∷ (tableCall e1 3 (leavesOf (1 ∷ [])) ++ listCall e1 3 (leavesOf (1 ∷ [])) 0 ++ applyCall e1 3 (leavesOf (1 ∷ [])) (literal 2) (buffers 0 0)) gives (11 ∷ 11 ∷ 11 ∷ [])
+    ∷ (tableCall e1 3 (leavesOf (1 ∷ [])) ++ listCall e1 3 (leavesOf (1 ∷ [])) 0
+    ++ applyCall e1 3 (leavesOf (1 ∷ [])) (literal 2) (buffers 0 0)) gives (11 ∷ 11 ∷ 11 ∷ [])
     -- P9 and P10: one replacement leaves no gate, and output 0 or 1; the work area's words are 0
     ∷ runCall e9 (buffers 2 1) (buffers 2 1) gives (0 ∷ 0 ∷ 1 ∷ 0 ∷ 0 ∷ 0 ∷ 0 ∷ 0 ∷ 0 ∷ [])
     ∷ runCall e10 (buffers 2 1) (buffers 2 1) gives (0 ∷ 0 ∷ 1 ∷ 0 ∷ 0 ∷ 1 ∷ 0 ∷ 0 ∷ 0 ∷ [])

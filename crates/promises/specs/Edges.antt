@@ -62,7 +62,8 @@ graphEdges =
     ∷ (tableCall e1 4 (leavesOf (0 ∷ 1 ∷ [])) ++ tableCall e1 4 (leavesOf (1 ∷ 4 ∷ []))) gives (10 ∷ 10 ∷ [])
     ∷ tableCall e1 4 (record { count = 1; places = variables (1 ∷ 2 ∷ 0 ∷ 0 ∷ 0 ∷ 0 ∷ []) }) gives (10 ∷ [])
     -- evaluating: the first value is input 1's
-    ∷ (evaluateCall (graphOf 2 (5 ∷ 2 ∷ []) (6 ∷ 7 ∷ [])) (1 ∷ 0 ∷ []) 3 ++ evaluateCall (graphOf 2 (5 ∷ 2 ∷ []) (6 ∷ 7 ∷ [])) (0 ∷ 1 ∷ []) 3)
+    ∷ (evaluateCall (graphOf 2 (5 ∷ 2 ∷ []) (6 ∷ 7 ∷ [])) (1 ∷ 0 ∷ []) 3
+    ++ evaluateCall (graphOf 2 (5 ∷ 2 ∷ []) (6 ∷ 7 ∷ [])) (0 ∷ 1 ∷ []) 3)
     gives (0 ∷ 2 ∷ 1 ∷ 0 ∷ 99 ∷ 0 ∷ 2 ∷ 0 ∷ 1 ∷ 99 ∷ [])
     -- an accepted replacement: one gate is left, and the places past the need keep their contents
     ∷ applyCall e1 4 (leavesOf (1 ∷ 2 ∷ [])) (literal 6) (buffers 3 2) gives (0 ∷ 1 ∷ 1 ∷ 4 ∷ 2 ∷ 99 ∷ 6 ∷ 99 ∷ [])

@@ -52,14 +52,17 @@ pub record Holds (h : Graph) (before after : Buffers) : Type 0 where
 -- what was written is read into lent lists; where writing was refused, that is the answer
 unfoldable pub readBack : Effect WrittenText (List ℕ) → Buffers → Effect ReadText Buffers
 unfolding readEffect
-readBack w b = elim (w .answer) [ WrittenText.Bytes n ↦ readEffect (take n (w .lent)) b | WrittenText.Refused r ↦ ReadText.Refused r leaving b ]
+readBack w b =
+    elim (w .answer) [ WrittenText.Bytes n ↦ readEffect (take n (w .lent)) b | WrittenText.Refused r ↦ ReadText.Refused r leaving b ]
 
 -- g was written into lent bytes and what was written read into lent lists: a well-formed g for which there is room comes back
 abbrev pub WrittenAgain : Graph → List ℕ → Buffers → ReadText → Buffers → Type 0
 WrittenAgain g bytes before r after =
-    WellFormed g → length (textOf g) ≤ length bytes → length (g .net .gates) ≤ length (before .gates) → length (g .outputs) ≤ length (before .outputs)
+    WellFormed g → length (textOf g) ≤ length bytes → length (g .net .gates) ≤ length (before .gates)
+    → length (g .outputs) ≤ length (before .outputs)
     → (r ≡ ReadText.Graph (g .net .inputs) (size (g .net)) (length (g .outputs))) × Holds g before after
 
--- a call was made twice, each time on lent memory of its own: where both held the same before, the answers are the same, and both hold the same after
+-- a call was made twice, each time on lent memory of its own: where both held the same before, the answers are the same, and both
+-- hold the same after
 abbrev pub SameAgain : {A L : Type 0} → L → A → L → L → A → L → Type 0
 SameAgain before r after before′ r′ after′ = before ≡ before′ → (r ≡ r′) × (after ≡ after′)

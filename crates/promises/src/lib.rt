@@ -18,8 +18,10 @@ pub fn write_then_read(
     results: &mut [u32],
 ) -> ReadText
     ensures { λ r. ⌜ r leaving buffersOf (now (words .exit)) (now (results .exit))
-        ≡ readBack (writeEffect (graphOf inputs (now (gates .entry)) (now (outputs .entry))) (now (bytes .entry))) (buffersOf (now (words .entry)) (now (results .entry))) ⌝ }
-    ensures { λ _. ⌜ now (bytes .exit) ≡ (writeEffect (graphOf inputs (now (gates .entry)) (now (outputs .entry))) (now (bytes .entry))) .lent ⌝ }
+        ≡ readBack (writeEffect (graphOf inputs (now (gates .entry)) (now (outputs .entry))) (now (bytes .entry)))
+        (buffersOf (now (words .entry)) (now (results .entry))) ⌝ }
+    ensures { λ _. ⌜ now (bytes .exit)
+        ≡ (writeEffect (graphOf inputs (now (gates .entry)) (now (outputs .entry))) (now (bytes .entry))) .lent ⌝ }
     ensures { λ r. ⌜ WrittenAgain (graphOf inputs (now (gates .entry)) (now (outputs .entry))) (now (bytes .entry))
         (buffersOf (now (words .entry)) (now (results .entry))) r (buffersOf (now (words .exit)) (now (results .exit))) ⌝ }
 {
@@ -43,9 +45,12 @@ pub fn read_twice(
     words: &mut [u32],
     results: &mut [u32],
 ) -> TwoAnswers
-    ensures { λ r. ⌜ r .first leaving buffersOf (now (gates .exit)) (now (outputs .exit)) ≡ readEffect (now (text .entry)) (buffersOf (now (gates .entry)) (now (outputs .entry))) ⌝ }
-    ensures { λ r. ⌜ r .second leaving buffersOf (now (words .exit)) (now (results .exit)) ≡ readEffect (now (text .entry)) (buffersOf (now (words .entry)) (now (results .entry))) ⌝ }
-    ensures { λ r. ⌜ SameAgain (buffersOf (now (gates .entry)) (now (outputs .entry))) (r .first) (buffersOf (now (gates .exit)) (now (outputs .exit)))
+    ensures { λ r. ⌜ r .first leaving buffersOf (now (gates .exit)) (now (outputs .exit))
+        ≡ readEffect (now (text .entry)) (buffersOf (now (gates .entry)) (now (outputs .entry))) ⌝ }
+    ensures { λ r. ⌜ r .second leaving buffersOf (now (words .exit)) (now (results .exit))
+        ≡ readEffect (now (text .entry)) (buffersOf (now (words .entry)) (now (results .entry))) ⌝ }
+    ensures { λ r. ⌜ SameAgain (buffersOf (now (gates .entry)) (now (outputs .entry))) (r .first)
+        (buffersOf (now (gates .exit)) (now (outputs .exit)))
         (buffersOf (now (words .entry)) (now (results .entry))) (r .second) (buffersOf (now (words .exit)) (now (results .exit))) ⌝ }
 {
     let first = reader::read(text, gates, outputs);

@@ -15,7 +15,8 @@ use text::ReadText;
 
 // Reads a text: the counts of the graph that it states, whose words are then in the lent lists; or why it is refused.
 pub fn read(text: &[u8], gates: &mut [u32], outputs: &mut [u32]) -> ReadText
-    ensures { λ r. ⌜ r leaving buffersOf (now (gates .exit)) (now (outputs .exit)) ≡ readEffect (now (text .entry)) (buffersOf (now (gates .entry)) (now (outputs .entry))) ⌝ }
+    ensures { λ r. ⌜ r leaving buffersOf (now (gates .exit)) (now (outputs .exit))
+        ≡ readEffect (now (text .entry)) (buffersOf (now (gates .entry)) (now (outputs .entry))) ⌝ }
 {
     let mut gate_words = [0u32; 2 * MOST_GATES];
     let mut output_words = [0u32; MOST_OUTPUTS];

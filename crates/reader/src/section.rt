@@ -60,7 +60,8 @@ pub(crate) fn read_inputs(text: &[u8], at: usize, header: Header) -> Section
 pub(crate) fn read_outputs(text: &[u8], at: usize, header: Header, words: &mut [u32]) -> Section
     requires { ⌜ Limited header ⌝ }
     requires { ⌜ header .outputs ≤ length (now words) ⌝ }
-    ensures { λ r. ⌜ sectionWords (now (text .entry)) (take (header .outputs) (now (words .exit))) r ≡ readWords outputWords (outputsNeeded header) (drop at (now (text .entry))) ⌝ }
+    ensures { λ r. ⌜ sectionWords (now (text .entry)) (take (header .outputs) (now (words .exit))) r
+        ≡ readWords outputWords (outputsNeeded header) (drop at (now (text .entry))) ⌝ }
 {
     let most = Var(header.highest).plain().0 + 1;
     let count = header.outputs as usize;
@@ -114,7 +115,8 @@ fn store_gate(words: &mut [u32], at: usize, one: Lit, other: Lit)
 pub(crate) fn read_gates(text: &[u8], at: usize, header: Header, words: &mut [u32]) -> Section
     requires { ⌜ Limited header ⌝ }
     requires { ⌜ 2 * header .gates ≤ length (now words) ⌝ }
-    ensures { λ r. ⌜ sectionWords (now (text .entry)) (take (2 * header .gates) (now (words .exit))) r ≡ readWords gateWords (gatesNeeded header) (drop at (now (text .entry))) ⌝ }
+    ensures { λ r. ⌜ sectionWords (now (text .entry)) (take (2 * header .gates) (now (words .exit))) r
+        ≡ readWords gateWords (gatesNeeded header) (drop at (now (text .entry))) ⌝ }
 {
     let free = header.free();
     let count = header.gates;

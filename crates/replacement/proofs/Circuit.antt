@@ -54,7 +54,8 @@ pub record Replaced (g g′ : Graph) (root : ℕ) (stand : ℕ → ℕ) (f : Lis
   pub root-is : (a : ℕ → Bool) → literalUnder (g′ .net) a (stand root) ≡ f (valuesUnder (g′ .net) a root)
   pub outputs-moved : sinks g′ ≡ map (moved (g .net) (g′ .net) stand) (sinks g)
 
-module _ (g g′ : Graph) (ok : Lawful g) (ok′ : Lawful g′) (root : ℕ) (gate : IsGate (g .net) root) (w : Leaves) (cut : covered (g .net) w root ≡ true)
+module _ (g g′ : Graph) (ok : Lawful g) (ok′ : Lawful g′) (root : ℕ) (gate : IsGate (g .net) root) (w : Leaves)
+    (cut : covered (g .net) w root ≡ true)
     (stand : ℕ → ℕ) (f : List Bool → Bool) (c : Computes (g .net) w root f) (r : Replaced g g′ root stand f) (a : ℕ → Bool) where
   abbrev Same : ℕ → Type 0
   Same v = Carries (g .net) (g′ .net) stand a v
@@ -85,7 +86,8 @@ module _ (g g′ : Graph) (ok : Lawful g) (ok′ : Lawful g′) (root : ℕ) (ga
       (below (varOf (first (g .net) v)) (omega arith)) (below (varOf (second (g .net) v)) (omega arith))
 
   carries : (v : ℕ) → v ≤ last (g .net) → Same v
-  carries = all-carry (g .net) (g′ .net) stand a (λ v. v ≤ last (g .net)) (r .same-free) (λ v h. r .stays v (let l = gate .above in omega arith))
+  carries =
+      all-carry (g .net) (g′ .net) stand a (λ v. v ≤ last (g .net)) (r .same-free) (λ v h. r .stays v (let l = gate .above in omega arith))
       (λ v l h below. ⊎-elim
       (λ e. subst Same (sym e) (root-carries (λ u k. below u (omega arith) (omega arith))))
       (λ n. other-carries v (record { above = l; within = h }) n (λ u k. below u k (omega arith))) (equal-or-not v root))
@@ -96,5 +98,6 @@ module _ (g g′ : Graph) (ok : Lawful g) (ok′ : Lawful g′) (root : ℕ) (ga
       ∙ ap (map (literalUnder (g′ .net) a)) (r .outputs-moved)
       ∙ map-map (literalUnder (g′ .net) a) (moved (g .net) (g′ .net) stand) (sinks g)
       ∙ map-same (λ l. literalUnder (g′ .net) a (moved (g .net) (g′ .net) stand l)) (literalUnder (g .net) a) 0 (sinks g)
-      (λ j h. let b = ok .sinks-within j h in literal-carries (g .net) (g′ .net) stand a (getD (sinks g) j 0) (carries (varOf (getD (sinks g) j 0)) (omega arith)))
+      (λ j h. let b = ok .sinks-within j h in
+      literal-carries (g .net) (g′ .net) stand a (getD (sinks g) j 0) (carries (varOf (getD (sinks g) j 0)) (omega arith)))
       ∙ sym (outputs-are-literals g ok a)

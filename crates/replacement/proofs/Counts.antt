@@ -74,7 +74,8 @@ module _ (net : Net) where
   unfolding countApart
   apart-stays ms ns j f zero l h = let e : j ≡ 0 = omega arith in rw e
   apart-stays ms ns j f (suc k) l h = ⊎-elim
-      (λ q. let c = apart-stays ms ns j f k q (omega arith) in omega (arith, none (getD ms (var k) false) (getD ns (var k) false) (f (var k) (var-gate k h) (omega arith))))
+      (λ q. let c = apart-stays ms ns j f k q (omega arith) in
+      omega (arith, none (getD ms (var k) false) (getD ns (var k) false) (f (var k) (var-gate k h) (omega arith))))
       (λ q. let e : j ≡ suc k = omega arith in rw e)
       (at-most-or-above j k)
     where
@@ -104,13 +105,15 @@ module _ (net : Net) where
     low : (k : ℕ) → k ≤ size net → free net + k < root → countMarks net ms k ≡ countMarks net ns k
     unfolding countMarks
     low zero h l = refl
-    low (suc k) h l = ap₂ _+_ (low k (omega arith) (omega arith)) (ap (λ (t : Bool). cond t 1 0) (same (var k) (var-gate k h) (λ e. omega arith)))
+    low (suc k) h l =
+        ap₂ _+_ (low k (omega arith) (omega arith)) (ap (λ (t : Bool). cond t 1 0) (same (var k) (var-gate k h) (λ e. omega arith)))
 
     high : (k : ℕ) → k ≤ size net → root ≤ free net + k → countMarks net ms k ≡ countMarks net ns k + cond (getD ms root false) 1 0
     unfolding countMarks
     high zero h l = absurd (let a = gate .above in omega arith)
     high (suc k) h l = ⊎-elim
-        (λ q. let c = high k (omega arith) q in let e = ap (λ (t : Bool). cond {A = ℕ} t 1 0) (same (var k) (var-gate k h) (λ e. omega arith)) in omega arith)
+        (λ q. let c = high k (omega arith) q in
+        let e = ap (λ (t : Bool). cond {A = ℕ} t 1 0) (same (var k) (var-gate k h) (λ e. omega arith)) in omega arith)
         (λ q. let e : var k ≡ root = omega arith in
         let c = low k (omega arith) (omega arith) in
         let o : cond {A = ℕ} (getD ns (var k) false) 1 0 ≡ 0 = rw (e, off) in
@@ -145,4 +148,5 @@ unfolding markDown
 down-only net Q zero ms h closed start v m = start v m
 down-only net Q (suc k) ms h closed start v m =
     down-only net Q k (markFanins net (suc (free net + k)) ms) (omega arith) (λ t u i l. closed t u i (omega arith))
-    (λ u n. ⊎-elim (λ s. start u s) (λ s. closed (suc (free net + k)) u (var-gate net k h) (omega arith) (start _ (s .0)) (s .1)) (fanins-only net (suc (free net + k)) ms u n)) v m
+    (λ u n. ⊎-elim (λ s. start u s) (λ s. closed (suc (free net + k)) u (var-gate net k h) (omega arith) (start _ (s .0)) (s .1))
+    (fanins-only net (suc (free net + k)) ms u n)) v m

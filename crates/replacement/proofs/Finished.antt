@@ -33,7 +33,8 @@ module _ (g : Graph) (root : ℕ) (p : Proposal) where
   unfolding finished dropped rewired
   finished-sinks = length-map (sinks (rewired g root p)) (renumbered (rewired g root p .net) _) ∙ length-map (sinks g) (redirected root p)
 
-module _ (g : Graph) (ok : Lawful g) (root : ℕ) (gate : IsGate (g .net) root) (w : Leaves) (p : Proposal) (rule : Allowed (g .net) root w p) where
+module _ (g : Graph) (ok : Lawful g) (root : ℕ) (gate : IsGate (g .net) root) (w : Leaves) (p : Proposal)
+    (rule : Allowed (g .net) root w p) where
   lawful : Lawful (rewired g root p)
   lawful = rewired-lawful g ok root gate p (wires-of (g .net) root w p rule)
 
@@ -51,7 +52,8 @@ module _ (g : Graph) (ok : Lawful g) (root : ℕ) (gate : IsGate (g .net) root) 
   finished-size = dropped-size (rewired g root p) ∙ sym (dropped-uses (rewired g root p) lawful)
 
 -- with a gain the order is never lost: there are no more gates than before
-pub finished-well-formed : (g : Graph) → WellFormed g → (root : ℕ) → IsGate (g .net) root → (w : Leaves) (p : Proposal) → Allowed (g .net) root w p
+pub finished-well-formed : (g : Graph) → WellFormed g → (root : ℕ) → IsGate (g .net) root → (w : Leaves) (p : Proposal)
+    → Allowed (g .net) root w p
     → usedGates (finished g root p) < usedGates g → WellFormed (finished g root p)
 finished-well-formed g ok root gate w p rule fewer = record {
   lawful = finished-lawful g (ok .lawful) root gate w p rule;
@@ -73,10 +75,12 @@ module _ (g : Graph) (root : ℕ) (w : Leaves) (p : Proposal) (same : Replaces g
   rewired-keeps-outputs : (a : ℕ → Bool) → outputsUnder (rewired g root p) a ≡ outputsUnder g a
   rewired-keeps-outputs a =
       let wires = wires-of (g .net) root w p (same .rule) in
-      replaced-keeps-outputs g (rewired g root p) (same .lawful) (lawful g (same .lawful) root (same .gate) w p (same .rule)) root (same .gate) w (same .cut)
+      replaced-keeps-outputs g (rewired g root p) (same .lawful) (lawful g (same .lawful) root (same .gate) w p (same .rule)) root
+      (same .gate) w (same .cut)
       (standFor root p) (λ vs. proposedValue bools vs p) (equal-table-computes (g .net) root w p (same .few) (same .rule) (same .equal))
       (rewired-replaced g (same .lawful) root (same .gate) p wires) a
 
   pub finished-keeps-outputs : (a : ℕ → Bool) → outputsUnder (finished g root p) a ≡ outputsUnder g a
   unfolding finished
-  finished-keeps-outputs a = dropped-keeps-outputs (rewired g root p) (lawful g (same .lawful) root (same .gate) w p (same .rule)) a ∙ rewired-keeps-outputs a
+  finished-keeps-outputs a =
+      dropped-keeps-outputs (rewired g root p) (lawful g (same .lawful) root (same .gate) w p (same .rule)) a ∙ rewired-keeps-outputs a

@@ -25,7 +25,8 @@ at-least-one-falls a b e = go (ltb a b) refl e
 
 falls-at-least-one : (a b : ℕ) → b < a → atLeastOne (subℕ a b) ≡ true
 unfolding atLeastOne
-falls-at-least-one a b l = ap (λ (t : Bool). atLeastOne (cond t (negsuc (b - suc a)) (pos (a - b)))) (le-ltb a b (omega arith)) ∙ lt-ltb 0 (a - b) (omega arith)
+falls-at-least-one a b l =
+    ap (λ (t : Bool). atLeastOne (cond t (negsuc (b - suc a)) (pos (a - b)))) (le-ltb a b (omega arith)) ∙ lt-ltb 0 (a - b) (omega arith)
 
 pub difference : (a b n : ℕ) → subℕ a b ≡ pos n → b + n ≡ a
 difference a b n e = go (ltb a b) refl e
@@ -44,13 +45,15 @@ same-difference a b c d e =
     let m : b - suc a ≡ d - suc c = omega arith in
     let n : a - b ≡ c - d = omega arith in
     let t : ltb a b ≡ ltb c d = ⊎-elim
-    (λ l. lt-ltb a b (omega arith) ∙ sym (lt-ltb c d l)) (λ l. le-ltb a b (omega arith) ∙ sym (le-ltb c d (omega arith))) (at-most-or-above (suc c) d) in
+    (λ l. lt-ltb a b (omega arith) ∙ sym (lt-ltb c d l)) (λ l. le-ltb a b (omega arith) ∙ sym (le-ltb c d (omega arith)))
+    (at-most-or-above (suc c) d) in
     rw (t, m, n)
 
 module _ (g : Graph) (root : ℕ) (p : Proposal) where
   pub gain-iff : (atLeastOne (gain g root p) ≡ true) ↔ (usedGates (finished g root p) < usedGates g)
   unfolding gain
-  gain-iff = (at-least-one-falls (usedGates g) (usedGates (finished g root p)), falls-at-least-one (usedGates g) (usedGates (finished g root p)))
+  gain-iff =
+      (at-least-one-falls (usedGates g) (usedGates (finished g root p)), falls-at-least-one (usedGates g) (usedGates (finished g root p)))
 
   -- R falls by the gain
   pub falls-by-gain : (n : ℕ) → gain g root p ≡ pos n → 1 ≤ n → usedGates (finished g root p) + n ≡ usedGates g

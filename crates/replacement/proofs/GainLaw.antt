@@ -1,4 +1,5 @@
--- The gain law: the gain is how many gates in use go with the root, less those that the proposal puts there and those that its literals hold back.
+-- The gain law: the gain is how many gates in use go with the root, less those that the proposal puts there and those that its
+-- literals hold back.
 -- Assumes nothing.
 use mathlib.Core.Path.{_≡_, sym, _∙_}
 use mathlib.Core.Bool.{true}

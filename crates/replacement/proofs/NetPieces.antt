@@ -6,7 +6,7 @@ use Prim.Native.Nat.{ℕ, suc, _+_, _-_, _*_, _≤_, _<_, max, min}
 use native.Mathlib.Omega.{arith}
 use lib.ListN.{length, getD}
 use Rattle.graph.specs.Lists.{gather}
-use Rattle.graph.specs.Graph.{Net, netOf, size, first, second, largerFirst}
+use Rattle.graph.specs.Graph.{Net, netOf, first, second, largerFirst}
 use Rattle.graph.proofs.Graph.{larger-first}
 use Rattle.graph.proofs.Gather.{length-gather, getD-gather}
 

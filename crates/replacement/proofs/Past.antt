@@ -33,7 +33,8 @@ either-way ms x y = ⊎-elim
     (λ h. let a : max x y ≡ x = omega arith in let b : min x y ≡ y = omega arith in rw (a, b)) (at-most-or-above x y)
 
 -- only the variables count
-each-same : (f h : ℕ → ℕ) (e : (l : ℕ) → varOf (f l) ≡ varOf (h l)) (ls : List ℕ) (ms : List Bool) → markEach (map f ls) ms ≡ markEach (map h ls) ms
+each-same : (f h : ℕ → ℕ) (e : (l : ℕ) → varOf (f l) ≡ varOf (h l)) (ls : List ℕ) (ms : List Bool)
+    → markEach (map f ls) ms ≡ markEach (map h ls) ms
 unfolding markEach
 each-same f h e [] ms = refl
 each-same f h e (l ∷ ls) ms = ap (λ (u : ℕ). markEach (map f ls) (set ms u true)) (e l) ∙ each-same f h e ls (set ms (varOf (h l)) true)
@@ -72,21 +73,26 @@ module _ (g : Graph) (ok : Lawful g) (root : ℕ) (gate : IsGate (g .net) root) 
       both : ℕ → ℕ → List Bool
       both x y = markEach (x ∷ y ∷ []) ms
 
-  fanins-past : (v : ℕ) → IsGate (g .net) v → (ms : List Bool) → markFanins (rewiredNet (g .net) root (literal 0)) v ms ≡ markFaninsPast (g .net) root v ms
+  fanins-past : (v : ℕ) → IsGate (g .net) v → (ms : List Bool)
+      → markFanins (rewiredNet (g .net) root (literal 0)) v ms ≡ markFaninsPast (g .net) root v ms
   unfolding markFanins markFaninsPast
   fanins-past v i ms = ap (λ (xs : List Bool). cond (getD ms v false) xs ms) (gate-past v i ms)
 
-  down-past : (k : ℕ) (ms : List Bool) → k ≤ size (g .net) → markDown (rewiredNet (g .net) root (literal 0)) k ms ≡ markDownPast (g .net) root k ms
+  down-past : (k : ℕ) (ms : List Bool) → k ≤ size (g .net)
+      → markDown (rewiredNet (g .net) root (literal 0)) k ms ≡ markDownPast (g .net) root k ms
   unfolding markDown markDownPast rewiredNet
   down-past zero ms h = refl
   down-past (suc k) ms h =
-      ap (λ (xs : List Bool). markDown (rewiredNet (g .net) root (literal 0)) k xs) (fanins-past (var (g .net) k) (var-gate (g .net) k h) ms)
+      ap (λ (xs : List Bool). markDown (rewiredNet (g .net) root (literal 0)) k xs)
+      (fanins-past (var (g .net) k) (var-gate (g .net) k h) ms)
       ∙ down-past k (markFaninsPast (g .net) root (var (g .net) k) ms) (omega arith)
 
   pub without-is : marks (rewired g root (literal 0)) ≡ marksWithout g root
   unfolding marksWithout marks rewired rewiredNet
   without-is =
-      ap (λ (n : ℕ). markDown (rewiredNet (g .net) root (literal 0)) n (markEach (map (redirected root (literal 0)) (sinks g)) (replicate (suc (free (g .net) + n)) false)))
+      ap (λ (n : ℕ). markDown (rewiredNet (g .net) root (literal 0)) n
+      (markEach (map (redirected root (literal 0)) (sinks g)) (replicate (suc (free (g .net) + n)) false)))
       (rewired-size (g .net) root (literal 0))
-      ∙ ap (markDown (rewiredNet (g .net) root (literal 0)) (size (g .net))) (each-same (redirected root (literal 0)) (past root) (redirected-past root) (sinks g) _)
+      ∙ ap (markDown (rewiredNet (g .net) root (literal 0)) (size (g .net)))
+      (each-same (redirected root (literal 0)) (past root) (redirected-past root) (sinks g) _)
       ∙ down-past (size (g .net)) _ (le-refl _)

@@ -21,7 +21,18 @@ use Rattle.window.proofs.Bits.{pack-lt, pack-equal}
 use Rattle.window.proofs.Table.{table-is}
 use Rattle.window.proofs.Patterns.{locals-by-pattern, local-by-pattern}
 use Rattle.replacement.specs.declared.types.Proposal.{Proposal}
-use Rattle.replacement.specs.Proposal.{divides, Divides, literalRules, andRules, allowed, Allowed, a-literal, an-and, proposedValue, proposedTable}
+use Rattle.replacement.specs.Proposal.{
+  divides,
+  Divides,
+  literalRules,
+  andRules,
+  allowed,
+  Allowed,
+  a-literal,
+  an-and,
+  proposedValue,
+  proposedTable,
+}
 use Rattle.replacement.proofs.Circuit.{Computes}
 
 -- ---- the rules
@@ -53,13 +64,16 @@ module _ (net : Net) (root : ℕ) (w : Leaves) where
 
     literal-facts : p .kind ≡ 0 → every (literalRules net root w p) ≡ true → Allowed net root w p
     unfolding literalRules
-    literal-facts k e = let at = every-at (literalRules net root w p) e in a-literal k (divides-facts (p .first .0) (at 0)) (eqb-true _ _ (at 1)) (eqb-true _ _ (at 2))
+    literal-facts k e =
+        let at = every-at (literalRules net root w p) e in
+        a-literal k (divides-facts (p .first .0) (at 0)) (eqb-true _ _ (at 1)) (eqb-true _ _ (at 2))
 
     and-facts : p .kind ≡ 1 → every (andRules net root w p) ≡ true → Allowed net root w p
     unfolding andRules
     and-facts k e =
         let at = every-at (andRules net root w p) e in
-        an-and k (divides-facts (p .first .0) (at 0)) (divides-facts (p .second .0) (at 1)) (ltb-true _ _ (at 2)) (ltb-true _ _ (at 3)) (leb-true _ _ (at 4))
+        an-and k (divides-facts (p .first .0) (at 0)) (divides-facts (p .second .0) (at 1)) (ltb-true _ _ (at 2)) (ltb-true _ _ (at 3))
+        (leb-true _ _ (at 4))
 
     allowed-facts : allowed net root w p ≡ true → Allowed net root w p
     allowed-facts e = ⊎-elim
@@ -71,7 +85,9 @@ module _ (net : Net) (root : ℕ) (w : Leaves) where
     unfolding literalRules andRules
     allowed-test (a-literal k d s t) = by-literal k ∙ every-of (divides-test (p .first .0) d then eq-eqb _ _ s then eq-eqb _ _ t then done)
     allowed-test (an-and k d d′ z l t) =
-        by-and k ∙ every-of (divides-test (p .first .0) d then divides-test (p .second .0) d′ then lt-ltb _ _ z then lt-ltb _ _ l then le-leb _ _ t then done)
+        by-and k
+        ∙ every-of (divides-test (p .first .0) d then divides-test
+        (p .second .0) d′ then lt-ltb _ _ z then lt-ltb _ _ l then le-leb _ _ t then done)
 
     pub allowed-iff : (allowed net root w p ≡ true) ↔ Allowed net root w p
     allowed-iff = (allowed-facts, allowed-test)
@@ -84,7 +100,8 @@ module _ (p : Proposal) where
   value-of-literal e vs = rw e
 
   pub value-of-and : p .kind ≡ 1 → (vs : List Bool)
-      → proposedValue bools vs p ≡ turned bools (isOdd (p .turned)) (bools .conj (litValue bools vs (p .first .0)) (litValue bools vs (p .second .0)))
+      → proposedValue bools vs p
+      ≡ turned bools (isOdd (p .turned)) (bools .conj (litValue bools vs (p .first .0)) (litValue bools vs (p .second .0)))
   unfolding proposedValue
   value-of-and e vs = rw e
 
@@ -102,10 +119,12 @@ module _ (net : Net) (root : ℕ) (w : Leaves) (p : Proposal) where
   literal-relies vs vs′ h l d = ap (turned bools (isOdd l)) (h (varOf l) (d .below-root) (d .is-covered))
 
   value-relies : Allowed net root w p → (vs vs′ : List Bool) → Agree vs vs′ → proposedValue bools vs p ≡ proposedValue bools vs′ p
-  value-relies (a-literal k d s t) vs vs′ h = value-of-literal p k vs ∙ literal-relies vs vs′ h (p .first .0) d ∙ sym (value-of-literal p k vs′)
+  value-relies (a-literal k d s t) vs vs′ h =
+      value-of-literal p k vs ∙ literal-relies vs vs′ h (p .first .0) d ∙ sym (value-of-literal p k vs′)
   value-relies (an-and k d d′ z l t) vs vs′ h =
       value-of-and p k vs
-      ∙ ap₂ (λ (x y : Bool). turned bools (isOdd (p .turned)) (bools .conj x y)) (literal-relies vs vs′ h (p .first .0) d) (literal-relies vs vs′ h (p .second .0) d′)
+      ∙ ap₂ (λ (x y : Bool). turned bools (isOdd (p .turned)) (bools .conj x y)) (literal-relies vs vs′ h (p .first .0) d)
+      (literal-relies vs vs′ h (p .second .0) d′)
       ∙ sym (value-of-and p k vs′)
 
   -- equal tables are equal functions, under every assignment of the leaves

@@ -1,4 +1,5 @@
--- What the rewired graph reaches: besides the root, what is reached through no reference to the root, and what the proposal's literals reach.
+-- What the rewired graph reaches: besides the root, what is reached through no reference to the root, and what the proposal's
+-- literals reach.
 -- Assumes nothing.
 use mathlib.Core.Path.{_≡_, refl, sym, ap, _∙_, subst}
 use mathlib.Core.Bool.{cond}
@@ -19,7 +20,19 @@ use Rattle.graph.proofs.Use.{first-lower, second-lower}
 use Rattle.replacement.specs.declared.types.Proposal.{Proposal}
 use Rattle.replacement.specs.Rewire.{standIn, redirected, rewiredNet, rewired}
 use Rattle.replacement.specs.Vanish.{Without, by-output, by-first, by-second, literals, From}
-use Rattle.replacement.proofs.Rewire.{literal-stands, root-stands, redirected-root, redirected-other, rewired-size, rewired-free, other-gate, and-root, Wires, to-literal, to-and}
+use Rattle.replacement.proofs.Rewire.{
+  literal-stands,
+  root-stands,
+  redirected-root,
+  redirected-other,
+  rewired-size,
+  rewired-free,
+  other-gate,
+  and-root,
+  Wires,
+  to-literal,
+  to-and,
+}
 
 -- ---- reached by fanins, whichever of the two
 
@@ -33,7 +46,8 @@ Named p u = NamedBy (literals p) u
 
 module _ (p : Proposal) (u : ℕ) where
   as-named : (varOf (p .first .0) ≡ u) ⊎ (varOf (p .second .0) ≡ u) → Named p u
-  as-named f = ⊎-elim (λ e. record { place = 0; within = omega arith; names = e }) (λ e. record { place = 1; within = omega arith; names = e }) f
+  as-named f =
+      ⊎-elim (λ e. record { place = 0; within = omega arith; names = e }) (λ e. record { place = 1; within = omega arith; names = e }) f
 
   pub named-either : Named p u → (varOf (p .first .0) ≡ u) ⊎ (varOf (p .second .0) ≡ u)
   named-either n = at (n .place) (n .within) (n .names)
@@ -60,7 +74,8 @@ module _ (g : Graph) where
   module _ (root : ℕ) where
     pub without-fanin : (v u : ℕ) → IsGate (g .net) v → Without g root v → ¬ (u ≡ root) → Fanin (g .net) v u → Without g root u
     without-fanin v u i r n f = ⊎-elim
-        (λ e. subst (Without g root) e (by-first i r (λ q. n (sym e ∙ q)))) (λ e. subst (Without g root) e (by-second i r (λ q. n (sym e ∙ q)))) f
+        (λ e. subst (Without g root) e (by-first i r (λ q. n (sym e ∙ q))))
+        (λ e. subst (Without g root) e (by-second i r (λ q. n (sym e ∙ q)))) f
 
     pub without-not-root : (v : ℕ) → Without g root v → ¬ (v ≡ root)
     without-not-root v (by-output j h n) = n
@@ -88,7 +103,8 @@ module _ (g : Graph) (root : ℕ) (p : Proposal) where
   -- from the literals on down
   pub by-from : (P : ℕ → Type 0) → ((u : ℕ) → Named p u → P u)
       → ((v u : ℕ) → IsGate (g .net) v → From (g .net) p v → P v → Fanin (g .net) v u → P u) → (v : ℕ) → From (g .net) p v → P v
-  by-from P named step = by-reach (record { net = g .net; outputs = literals p }) P (λ j h. named _ (record { place = j; within = h; names = refl })) step
+  by-from P named step =
+      by-reach (record { net = g .net; outputs = literals p }) P (λ j h. named _ (record { place = j; within = h; names = refl })) step
 
   module _ (ok : Lawful g) (low : (u : ℕ) → Named p u → u < root) where
     pub from-below : (v : ℕ) → From (g .net) p v → v < root
@@ -123,7 +139,8 @@ module _ (g : Graph) (root : ℕ) (gate : IsGate (g .net) root) (p : Proposal) w
   )
 
   -- a gate other than the root: its references lead where they go
-  fanin-from : (v u : ℕ) → IsGate (g .net) v → ¬ (v ≡ root) → Fanin (rewired g root p .net) v u → (t : ℕ) × Fanin (g .net) v t × (goes t ≡ u)
+  fanin-from : (v u : ℕ) → IsGate (g .net) v → ¬ (v ≡ root) → Fanin (rewired g root p .net) v u
+      → (t : ℕ) × Fanin (g .net) v t × (goes t ≡ u)
   unfolding rewired
   fanin-from v u i n f = let h = other-gate (g .net) root p v i n in ⊎-elim
       (λ e. (varOf (first (g .net) v), inl refl, sym (redirected-goes (first (g .net) v)) ∙ e))
@@ -137,7 +154,8 @@ module _ (g : Graph) (root : ℕ) (gate : IsGate (g .net) root) (p : Proposal) w
       (⊎-elim (λ e. inl (redirected-goes (first (g .net) v) ∙ ap goes e)) (λ e. inr (redirected-goes (second (g .net) v) ∙ ap goes e)) f)
 
   -- the root's gate in kind 1
-  root-fanin : p .kind ≡ 1 → (v u : ℕ) → IsGate (g .net) v → v ≡ root → Fanin (rewired g root p .net) v u ↔ ((varOf (p .first .0) ≡ u) ⊎ (varOf (p .second .0) ≡ u))
+  root-fanin : p .kind ≡ 1 → (v u : ℕ) → IsGate (g .net) v → v ≡ root → Fanin (rewired g root p .net) v u
+      ↔ ((varOf (p .first .0) ≡ u) ⊎ (varOf (p .second .0) ≡ u))
   unfolding rewired
   root-fanin k v u i e = let h = and-root (g .net) root p v i e k in
       (of-two (rewiredNet (g .net) root p) v _ _ (h .0) (h .1) u, two-of (rewiredNet (g .net) root p) v _ _ (h .0) (h .1) u)
@@ -153,14 +171,17 @@ module _ (g : Graph) (root : ℕ) (gate : IsGate (g .net) root) (p : Proposal) w
   output-goes : (j : ℕ) → j < length (sinks g) → Reached (rewired g root p) (goes (varOf (getD (sinks g) j 0)))
   output-goes j h = subst (Reached (rewired g root p)) (sink-goes j h) (as-output j (omega (arith, sink-count)))
 
-  step-goes : (v u : ℕ) → IsGate (g .net) v → ¬ (v ≡ root) → Reached (rewired g root p) v → Fanin (g .net) v u → Reached (rewired g root p) (goes u)
+  step-goes : (v u : ℕ) → IsGate (g .net) v → ¬ (v ≡ root) → Reached (rewired g root p) v → Fanin (g .net) v u
+      → Reached (rewired g root p) (goes u)
   step-goes v u i n r f = by-fanin (rewired g root p) v (goes u) (same-gates v .1 i) r (fanin-goes v u i n f)
 
   -- what is reached through no reference to the root stays so
   pub without-rewired : (v : ℕ) → Without g root v → Reached (rewired g root p) v
   without-rewired v (by-output j h n) = rw (goes-other _ n) at (output-goes j h)
-  without-rewired v (by-first {v = u} i r n) = rw (goes-other _ n) at (step-goes u _ i (without-not-root g root u r) (without-rewired u r) (inl refl))
-  without-rewired v (by-second {v = u} i r n) = rw (goes-other _ n) at (step-goes u _ i (without-not-root g root u r) (without-rewired u r) (inr refl))
+  without-rewired v (by-first {v = u} i r n) =
+      rw (goes-other _ n) at (step-goes u _ i (without-not-root g root u r) (without-rewired u r) (inl refl))
+  without-rewired v (by-second {v = u} i r n) =
+      rw (goes-other _ n) at (step-goes u _ i (without-not-root g root u r) (without-rewired u r) (inr refl))
 
   -- what a reference to the root becomes is reached: the references to a root in use survive
   root-goes : Lawful g → Reached g root → Reached (rewired g root p) (goes root)
@@ -196,7 +217,8 @@ module _ (g : Graph) (root : ℕ) (gate : IsGate (g .net) root) (p : Proposal) w
       where
         elsewhere : (t : ℕ) → ¬ (goes t ≡ root)
         elsewhere t q = ⊎-elim
-            (λ e. let f = named-below (varOf (p .first .0)) (as-named p _ (inl refl)) in omega (arith, goes-root t e, literal-stands root p k))
+            (λ e. let f = named-below (varOf (p .first .0)) (as-named p _ (inl refl)) in
+            omega (arith, goes-root t e, literal-stands root p k))
             (λ n. n (sym (goes-other t n) ∙ q)) (equal-or-not t root)
 
     pub rewired-beside : (v : ℕ) → Reached (rewired g root p) v → ¬ (v ≡ root) → Without g root v ⊎ From (g .net) p v
@@ -229,7 +251,9 @@ module _ (g : Graph) (root : ℕ) (gate : IsGate (g .net) root) (p : Proposal) w
           go (to-literal k l s) = ⊎-elim
               (λ e. subst (Reached (rewired g root p)) (goes-root root refl ∙ ap varOf (literal-stands root p k) ∙ e) (root-goes ok used))
               (λ e. absurd (omega arith)) (named-either p u f)
-          go (to-and k l m t) = by-fanin (rewired g root p) root u (same-gates root .1 gate) (root-reached k t) (root-fanin k root u gate refl .1 (named-either p u f))
+          go (to-and k l m t) =
+              by-fanin (rewired g root p) root u (same-gates root .1 gate) (root-reached k t)
+              (root-fanin k root u gate refl .1 (named-either p u f))
 
       from-rewired : (v : ℕ) → From (g .net) p v → 0 < v → Reached (rewired g root p) v
       from-rewired = by-from g root p (λ v. 0 < v → Reached (rewired g root p) v) named-reached

@@ -19,7 +19,20 @@ use Rattle.replacement.specs.Proposal.{proposedValue}
 use Rattle.replacement.specs.Rewire.{standIn, redirected, rewired}
 use Rattle.replacement.proofs.Circuit.{Replaced}
 use Rattle.replacement.proofs.Proposal.{value-of-literal, value-of-and}
-use Rattle.replacement.proofs.Rewire.{literal-stands, root-stands, redirected-root, redirected-other, rewired-size, rewired-free, other-gate, and-root, Wires, to-literal, to-and, rewired-lawful}
+use Rattle.replacement.proofs.Rewire.{
+  literal-stands,
+  root-stands,
+  redirected-root,
+  redirected-other,
+  rewired-size,
+  rewired-free,
+  other-gate,
+  and-root,
+  Wires,
+  to-literal,
+  to-and,
+  rewired-lawful,
+}
 
 -- the literal that stands for variable v afterwards
 pub standFor : ℕ → Proposal → ℕ → ℕ
@@ -85,7 +98,8 @@ module _ (g : Graph) (ok : Lawful g) (root : ℕ) (gate : IsGate (g .net) root) 
     value-in : (l : ℕ) → varOf l < root → litValue bools (valuesUnder (g′ .net) a root) l ≡ literalUnder (g′ .net) a l
     value-in l h = literal-value (g′ .net) a root l (omega arith)
 
-    and-at-root : p .kind ≡ 1 → valueUnder (g′ .net) a root ≡ literalUnder (g′ .net) a (p .first .0) && literalUnder (g′ .net) a (p .second .0)
+    and-at-root : p .kind ≡ 1
+        → valueUnder (g′ .net) a root ≡ literalUnder (g′ .net) a (p .first .0) && literalUnder (g′ .net) a (p .second .0)
     unfolding g′ rewired
     and-at-root k =
         let i = gate′ root gate in

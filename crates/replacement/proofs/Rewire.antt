@@ -100,7 +100,8 @@ module _ (g : Graph) (ok : Lawful g) (root : ℕ) (gate : IsGate (g .net) root) 
       (λ n. omega (arith, redirected-other root p l n)) (equal-or-not (varOf l) root)
 
   abbrev InOrder : ℕ → Type 0
-  InOrder v = (second (rewiredNet (g .net) root p) v ≤ first (rewiredNet (g .net) root p) v) × (first (rewiredNet (g .net) root p) v < 2 * v)
+  InOrder v =
+      (second (rewiredNet (g .net) root p) v ≤ first (rewiredNet (g .net) root p) v) × (first (rewiredNet (g .net) root p) v < 2 * v)
 
   held-in-order : (v a b : ℕ) (i : IsGate (g .net) v) → a < 2 * v → b < 2 * v → GateOver (rewiredNet (g .net) root p) v a b → InOrder v
   held-in-order v a b i l m h = (omega (arith, h .0, h .1), omega (arith, h .0))
@@ -123,7 +124,12 @@ module _ (g : Graph) (ok : Lawful g) (root : ℕ) (gate : IsGate (g .net) root) 
 
   old-gate : (v : ℕ) → IsGate (rewired g root p .net) v → IsGate (g .net) v
   unfolding rewired
-  old-gate v i = record { above = let a = i .above in omega (arith, rewired-free (g .net) root p); within = let b = i .within in omega (arith, rewired-free (g .net) root p, rewired-size (g .net) root p) }
+  old-gate v i =
+      record {
+        above = let a = i .above in omega (arith, rewired-free (g .net) root p);
+        within = let b = i .within in omega
+            (arith, rewired-free (g .net) root p, rewired-size (g .net) root p);
+      }
 
   sink-at : (j : ℕ) → j < length (sinks g) → getD (sinks (rewired g root p)) j 0 ≤ 2 * last (g .net) + 1
   unfolding rewired
@@ -138,5 +144,12 @@ module _ (g : Graph) (ok : Lawful g) (root : ℕ) (gate : IsGate (g .net) root) 
     even = unfold rewired in omega (arith, rewired-length (g .net) root p);
     ordered = λ v i. unfold rewired in in-order v (old-gate v i) .0;
     below = λ v i. unfold rewired in in-order v (old-gate v i) .1;
-    sinks-within = λ j h. unfold rewired in omega (arith, sink-at j (omega (arith, length-map (sinks g) (redirected root p))), rewired-free (g .net) root p, rewired-size (g .net) root p);
+    sinks-within =
+        λ j h. unfold rewired in
+        omega (
+          arith,
+          sink-at j (omega (arith, length-map (sinks g) (redirected root p))),
+          rewired-free (g .net) root p,
+          rewired-size (g .net) root p,
+        );
   }

@@ -17,10 +17,50 @@ use Rattle.graph.proofs.Use.{down-keeps, down-closed, marked-reached, reached-m
 use Rattle.replacement.specs.declared.types.Proposal.{Proposal}
 use Rattle.replacement.specs.Proposal.{literal}
 use Rattle.replacement.specs.Rewire.{rewired}
-use Rattle.replacement.specs.Vanish.{Without, by-output, by-first, by-second, literals, From, newGates, marksWithout, marksBeside, countApart, vanishing, heldBack}
+use Rattle.replacement.specs.Vanish.{
+  Without,
+  by-output,
+  by-first,
+  by-second,
+  literals,
+  From,
+  newGates,
+  marksWithout,
+  marksBeside,
+  countApart,
+  vanishing,
+  heldBack,
+}
 use Rattle.replacement.proofs.Rewire.{rewired-size, rewired-free, Wires, to-literal, to-and, rewired-lawful}
-use Rattle.replacement.proofs.Reach.{Named, named-either, by-fanin, by-reach, fanin-lower, without-fanin, without-not-root, from-named, by-from, from-below, named-below, without-rewired, rewired-beside, root-unreached, root-reached, rewired-reached}
-use Rattle.replacement.proofs.Counts.{apart, counted, apart-has, apart-stays, apart-more, but-root, same-count, marks-length, down-only}
+use Rattle.replacement.proofs.Reach.{
+  Named,
+  named-either,
+  by-fanin,
+  by-reach,
+  fanin-lower,
+  without-fanin,
+  without-not-root,
+  from-named,
+  by-from,
+  from-below,
+  named-below,
+  without-rewired,
+  rewired-beside,
+  root-unreached,
+  root-reached,
+  rewired-reached,
+}
+use Rattle.replacement.proofs.Counts.{
+  apart,
+  counted,
+  apart-has,
+  apart-stays,
+  apart-more,
+  but-root,
+  same-count,
+  marks-length,
+  down-only,
+}
 use Rattle.replacement.proofs.Past.{without-is}
 
 module _ (p : Proposal) where
@@ -42,20 +82,30 @@ module _ (g : Graph) (ok : Lawful g) (root : ℕ) (gate : IsGate (g .net) root) 
   nought = to-literal refl (let h = gate .above in omega arith) refl
 
   nought-reaches : (v : ℕ) → From (g .net) (literal 0) v → v ≡ 0
-  nought-reaches = by-from g root (literal 0) (λ v. v ≡ 0) (λ u n. ⊎-elim (λ e. omega arith) (λ e. omega arith) (named-either (literal 0) u n)) (λ v u i r e f. absurd (let h = i .above in omega arith))
+  nought-reaches =
+      by-from g root (literal 0) (λ v. v ≡ 0) (λ u n. ⊎-elim (λ e. omega arith) (λ e. omega arith) (named-either (literal 0) u n))
+      (λ v u i r e f. absurd (let h = i .above in omega arith))
 
   -- a mark is there for what is reached through no reference to the root
   pub without-iff : (v : ℕ) → 0 < v → Marked (marksWithout g root) v ↔ Without g root v
   without-iff v z = rw (← without-is g ok root gate) (
-    λ m. let r = marked-reached (rewired g root (literal 0)) v m in ⊎-elim (λ x. x) (λ x. absurd (let e = nought-reaches v x in omega arith))
+    λ m. let r = marked-reached (rewired g root (literal 0)) v m in
+        ⊎-elim (λ x. x) (λ x. absurd (let e = nought-reaches v x in omega arith))
         (rewired-beside g root gate (literal 0) nought v r (root-unreached g root gate (literal 0) nought refl v r)),
-    λ x. reached-marked (rewired g root (literal 0)) (rewired-lawful g ok root gate (literal 0) nought) v (without-rewired g root gate (literal 0) v x),
+    λ x. reached-marked (rewired g root (literal 0)) (rewired-lawful g ok root gate (literal 0) nought) v
+        (without-rewired g root gate (literal 0) v x),
   )
 
   without-length : length (marksWithout g root) ≡ suc (last (g .net))
   unfolding rewired
   without-length = rw (← without-is g ok root gate)
-      (omega (arith, marks-length (rewired g root (literal 0)), rewired-free (g .net) root (literal 0), rewired-size (g .net) root (literal 0)))
+      (omega (
+        arith,
+        marks-length (rewired g root (literal 0)),
+        rewired-free (g .net) root (literal 0),
+        rewired-size (g .net) root
+            (literal 0),
+      ))
 
   without-used : (v : ℕ) → Without g root v → Reached g v
   without-used v (by-output j h n) = as-output j h
@@ -115,17 +165,20 @@ module _ (g : Graph) (ok : Lawful g) (root : ℕ) (gate : IsGate (g .net) root) 
         (λ v u i r m f.
         let b = from-below g root p ok low v r in
         let c = down-closed g ok many start many-most start-length v (i .above) (unfold many in let h = gate .above in omega arith) m in
-        ⊎-elim (λ e. subst (Marked (markDown (g .net) many start)) e (c .0)) (λ e. subst (Marked (markDown (g .net) many start)) e (c .1)) f)
+        ⊎-elim (λ e. subst (Marked (markDown (g .net) many start)) e (c .0))
+        (λ e. subst (Marked (markDown (g .net) many start)) e (c .1)) f)
 
     -- a mark is there for what is reached through no reference to the root, or from the proposal's literals
     pub beside-iff : (v : ℕ) → 0 < v → Marked (marksBeside g root p) v ↔ (Without g root v ⊎ From (g .net) p v)
-    beside-iff v z = (λ m. beside-only v m z, λ b. ⊎-elim (λ x. beside-keeps v (without-iff v z .1 x)) (λ x. rw beside-is (from-marked v x)) b)
+    beside-iff v z =
+        (λ m. beside-only v m z, λ b. ⊎-elim (λ x. beside-keeps v (without-iff v z .1 x)) (λ x. rw beside-is (from-marked v x)) b)
 
     beside-root : getD (marksBeside g root p) root false ≡ false
     beside-root = not-marked (marksBeside g root p) root (λ m. ⊎-elim (λ x. without-not-root g root root x refl)
         (λ x. let l = from-below g root p ok low root x in omega arith) (beside-iff root (let h = gate .above in omega arith) .0 m))
 
-    beside-split : countMarks (g .net) (marksBeside g root p) (size (g .net)) ≡ countMarks (g .net) (marksWithout g root) (size (g .net)) + heldBack g root p
+    beside-split : countMarks (g .net) (marksBeside g root p) (size (g .net))
+        ≡ countMarks (g .net) (marksWithout g root) (size (g .net)) + heldBack g root p
     unfolding heldBack
     beside-split = apart (g .net) (marksBeside g root p) (marksWithout g root) (λ v i m. beside-keeps v m) (size (g .net)) (le-refl _)
 
@@ -139,28 +192,34 @@ module _ (g : Graph) (ok : Lawful g) (root : ℕ) (gate : IsGate (g .net) root) 
       lawful : Lawful (rewired g root p)
       lawful = rewired-lawful g ok root gate p wires
 
-      same-marks : (v : ℕ) → IsGate (g .net) v → ¬ (v ≡ root) → getD (marks (rewired g root p)) v false ≡ getD (marksBeside g root p) v false
+      same-marks : (v : ℕ) → IsGate (g .net) v → ¬ (v ≡ root)
+          → getD (marks (rewired g root p)) v false ≡ getD (marksBeside g root p) v false
       same-marks v i n =
           let z : 0 < v = let h = i .above in omega arith in
           let s = rewired-reached g root gate p wires ok used v z n in
-          same-tests _ _ (λ m. beside-iff p low-of v z .1 (s .0 (marked-reached (rewired g root p) v m))) (λ m. reached-marked (rewired g root p) lawful v (s .1 (beside-iff p low-of v z .0 m)))
+          same-tests _ _ (λ m. beside-iff p low-of v z .1 (s .0 (marked-reached (rewired g root p) v m)))
+          (λ m. reached-marked (rewired g root p) lawful v (s .1 (beside-iff p low-of v z .0 m)))
 
       root-mark : cond (getD (marks (rewired g root p)) root false) 1 0 ≡ newGates p
       root-mark = go wires
         where
           go : Wires root p → cond (getD (marks (rewired g root p)) root false) 1 0 ≡ newGates p
           go (to-literal k l s) =
-              ap (λ (b : Bool). cond {A = ℕ} b 1 0) (not-marked (marks (rewired g root p)) root (λ m. root-unreached g root gate p wires k root (marked-reached (rewired g root p) root m) refl))
+              ap (λ (b : Bool). cond {A = ℕ} b 1 0)
+              (not-marked (marks (rewired g root p)) root
+              (λ m. root-unreached g root gate p wires k root (marked-reached (rewired g root p) root m) refl))
               ∙ sym (new-literal p k)
           go (to-and k l m t) =
-              ap (λ (b : Bool). cond {A = ℕ} b 1 0) (reached-marked (rewired g root p) lawful root (root-reached g root gate p wires ok used k t)) ∙ sym (new-and p k)
+              ap (λ (b : Bool). cond {A = ℕ} b 1 0)
+              (reached-marked (rewired g root p) lawful root (root-reached g root gate p wires ok used k t)) ∙ sym (new-and p k)
 
       rewired-uses : usedGates (rewired g root p) ≡ countMarks (g .net) (marks (rewired g root p)) (size (g .net))
       unfolding usedGates
       rewired-uses =
           let f : free (rewired g root p .net) ≡ free (g .net) = unfold rewired in rewired-free (g .net) root p in
           let s : size (rewired g root p .net) ≡ size (g .net) = unfold rewired in rewired-size (g .net) root p in
-          same-count (rewired g root p .net) (g .net) (marks (rewired g root p)) f (size (rewired g root p .net)) ∙ ap (countMarks (g .net) (marks (rewired g root p))) s
+          same-count (rewired g root p .net) (g .net) (marks (rewired g root p)) f (size (rewired g root p .net))
+          ∙ ap (countMarks (g .net) (marks (rewired g root p))) s
 
       -- what is marked without the root and with the proposal's literals, and the gates that the proposal puts there
       pub rewired-balance : usedGates (rewired g root p) + vanishing g root ≡ usedGates g + (newGates p + heldBack g root p)
@@ -205,7 +264,8 @@ module _ (g : Graph) (ok : Lawful g) (root : ℕ) (gate : IsGate (g .net) root) 
   unfolding vanishing
   vanishing-below = let a = gate .above in let b = gate .within in
       apart-stays (g .net) (marks g) (marksWithout g root) (root - free (g .net))
-      (λ v i l m. without-iff v (omega arith) .1 (above-without v (marked-reached g v m) (omega arith))) (size (g .net)) (omega arith) (le-refl _)
+      (λ v i l m. without-iff v (omega arith) .1 (above-without v (marked-reached g v m) (omega arith))) (size (g .net)) (omega arith)
+      (le-refl _)
 
   module _ (p : Proposal) (low : (u : ℕ) → Named p u → u < root) where
     pub held-back-below : heldBack g root p ≡ countApart (g .net) (marksBeside g root p) (marksWithout g root) (root - suc (free (g .net)))
@@ -217,7 +277,8 @@ module _ (g : Graph) (ok : Lawful g) (root : ℕ) (gate : IsGate (g .net) root) 
         (size (g .net)) (omega arith) (le-refl _)
 
     -- fewer literals hold no more back
-    pub held-back-least : (q : Proposal) → ((u : ℕ) → Named q u → u < root) → ((u : ℕ) → 0 < u → Named q u → Named p u) → heldBack g root q ≤ heldBack g root p
+    pub held-back-least : (q : Proposal) → ((u : ℕ) → Named q u → u < root) → ((u : ℕ) → 0 < u → Named q u → Named p u)
+        → heldBack g root q ≤ heldBack g root p
     unfolding heldBack
     held-back-least q low′ f = apart-more (g .net) (marksBeside g root q) (marksBeside g root p) (marksWithout g root)
         (λ v i m. let z : 0 < v = let h = i .above in omega arith in
@@ -231,5 +292,6 @@ module _ (g : Graph) (ok : Lawful g) (root : ℕ) (gate : IsGate (g .net) root) 
   pub root-vanishes : Reached g root → 1 ≤ vanishing g root
   unfolding vanishing
   root-vanishes used = apart-has (g .net) (marks g) (marksWithout g root) root gate (reached-marked g ok root used)
-      (not-marked (marksWithout g root) root (λ m. without-not-root g root root (without-iff root (let h = gate .above in omega arith) .0 m) refl))
+      (not-marked (marksWithout g root) root
+      (λ m. without-not-root g root root (without-iff root (let h = gate .above in omega arith) .0 m) refl))
       (size (g .net)) (le-refl _) (gate .within)

@@ -62,7 +62,7 @@ pub data Allowed (net : Net) (root : ℕ) (w : Leaves) (p : Proposal) : Type 0 w
       → p .turned ≤ 1
       → Allowed net root w p
 
--- the proposal's value over any kind of value, where vs has the values of the variables below the root
+-- the proposal's value over any algebra, where vs has the values of the variables below the root
 unfoldable pub proposedValue : {A : Type 0} → Algebra A → List A → Proposal → A
 unfolding turned litValue
 proposedValue K vs p =

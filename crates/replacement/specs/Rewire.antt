@@ -29,7 +29,8 @@ rootGates net root p = cond (eqb (p .kind) 0) (largerFirst (first net root) (sec
 -- what stands for variable v's gate: a gate other than the root has its references redirected, and fanins are put larger first
 unfoldable pub rewiredGate : Net → ℕ → Proposal → ℕ → List ℕ
 unfolding rootGates largerFirst redirected first second
-rewiredGate net root p v = cond (eqb v root) (rootGates net root p) (largerFirst (redirected root p (first net v)) (redirected root p (second net v)))
+rewiredGate net root p v =
+    cond (eqb v root) (rootGates net root p) (largerFirst (redirected root p (first net v)) (redirected root p (second net v)))
 
 unfoldable pub rewiredNet : Net → ℕ → Proposal → Net
 unfolding gather rewiredGate

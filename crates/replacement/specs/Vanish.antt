@@ -14,8 +14,10 @@ use Rattle.replacement.specs.declared.types.Proposal.{Proposal}
 -- reached through no reference to the root
 pub data Without (g : Graph) (root : ℕ) : ℕ → Type 0 where
   by-output : (j : ℕ) → j < length (sinks g) → ¬ (varOf (getD (sinks g) j 0) ≡ root) → Without g root (varOf (getD (sinks g) j 0))
-  by-first : {v : ℕ} → IsGate (g .net) v → Without g root v → ¬ (varOf (first (g .net) v) ≡ root) → Without g root (varOf (first (g .net) v))
-  by-second : {v : ℕ} → IsGate (g .net) v → Without g root v → ¬ (varOf (second (g .net) v) ≡ root) → Without g root (varOf (second (g .net) v))
+  by-first : {v : ℕ} → IsGate (g .net) v → Without g root v → ¬ (varOf (first (g .net) v) ≡ root)
+      → Without g root (varOf (first (g .net) v))
+  by-second : {v : ℕ} → IsGate (g .net) v → Without g root v → ¬ (varOf (second (g .net) v) ≡ root)
+      → Without g root (varOf (second (g .net) v))
 
 -- the literals of a proposal, and what is reached from them: as if they were the outputs
 abbrev pub literals : Proposal → List ℕ
@@ -44,7 +46,8 @@ markDownPast net root (suc k) ms = markDownPast net root k (markFaninsPast net r
 
 unfoldable pub marksWithout : Graph → ℕ → List Bool
 unfolding markEach markDownPast
-marksWithout g root = markDownPast (g .net) root (size (g .net)) (markEach (map (past root) (sinks g)) (replicate (suc (last (g .net))) false))
+marksWithout g root =
+    markDownPast (g .net) root (size (g .net)) (markEach (map (past root) (sinks g)) (replicate (suc (last (g .net))) false))
 
 -- on top of these, the proposal's literals and all below them: one pass, from the gate before the root down
 unfoldable pub marksBeside : Graph → ℕ → Proposal → List Bool

@@ -48,10 +48,17 @@ found best (x ∷ xs) = go (ltb (best .gain) (x .gain)) refl (found x xs) (found
         → Found best (x ∷ xs) (greatestFrom (cond t x best) xs)
     go true e (inl p) q =
         let l = ltb-true _ _ e in
-        inr (subst (Greatest (x ∷ xs)) (sym (p .0)) (greatest-first x xs (p .1)), subst (λ (c : Candidate). best .gain < c .gain) (sym (p .0)) l)
-    go true e (inr p) q = let l : best .gain < x .gain = ltb-true _ _ e in let k : x .gain < greatestFrom x xs .gain = p .1 in inr (greatest-behind x _ xs k (p .0), omega arith)
+        inr (
+          subst (Greatest (x ∷ xs)) (sym (p .0)) (greatest-first x xs (p .1)),
+          subst (λ (c : Candidate). best .gain < c .gain) (sym (p .0)) l,
+        )
+    go true e (inr p) q =
+        let l : best .gain < x .gain = ltb-true _ _ e in let k : x .gain < greatestFrom x xs .gain = p .1 in
+        inr (greatest-behind x _ xs k (p .0), omega arith)
     go false e p (inl q) = inl (q .0, no-more-with best x xs (ltb-false _ _ e) (q .1))
-    go false e p (inr q) = let l : x .gain ≤ best .gain = ltb-false _ _ e in let k : best .gain < greatestFrom best xs .gain = q .1 in inr (greatest-behind x _ xs (omega arith) (q .0), k)
+    go false e p (inr q) =
+        let l : x .gain ≤ best .gain = ltb-false _ _ e in let k : best .gain < greatestFrom best xs .gain = q .1 in
+        inr (greatest-behind x _ xs (omega arith) (q .0), k)
 
 pub greatest-is : (xs : List Candidate) (x : Candidate) → greatest xs ≡ some x → Greatest xs x
 unfolding greatest

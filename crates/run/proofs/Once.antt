@@ -38,7 +38,8 @@ same-greatest (z ∷ b) (z′ ∷ b′) a a′ x y e f f′ l l′ =
 
 greatest-one : (xs : List Candidate) (x y : Candidate) → Greatest xs x → Greatest xs y → x ≡ y
 greatest-one xs x y g h =
-    same-greatest (g .before) (h .before) (g .after) (h .after) x y (sym (g .is) ∙ h .is) (g .earlier-less) (h .earlier-less) (g .later-no-more) (h .later-no-more)
+    same-greatest (g .before) (h .before) (g .after) (h .after) x y (sym (g .is) ∙ h .is) (g .earlier-less) (h .earlier-less)
+    (g .later-no-more) (h .later-no-more)
 
 -- ---- the step
 

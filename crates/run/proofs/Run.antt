@@ -45,7 +45,8 @@ module _ (g h : Graph) (ready : Ready g) (s : Step g h) where
 
   finished-ready : Ready (finished g (s .root) (proposalOf (s .best)))
   finished-ready = record {
-    well-formed = finished-well-formed g (ready .well-formed) (s .root) (s .is-gate) (picked (g .net) (s .root)) (proposalOf (s .best)) (fits .rule)
+    well-formed =
+        finished-well-formed g (ready .well-formed) (s .root) (s .is-gate) (picked (g .net) (s .root)) (proposalOf (s .best)) (fits .rule)
         (let h = best-good s in
         omega (arith, falls-by-gain g (s .root) (proposalOf (s .best)) (s .best .gain) (best-good s .gain-is) (best-good s .at-least-one)));
     all-reached = finished-all-reached g lawful (s .root) (s .is-gate) (picked (g .net) (s .root)) (proposalOf (s .best)) (fits .rule);
@@ -63,7 +64,12 @@ module _ (g h : Graph) (ready : Ready g) (s : Step g h) where
   pub step-shrinks : size (h .net) < size (g .net)
   step-shrinks =
       let b = best-good s .at-least-one in
-      omega (arith, step-lowers, all-used g lawful (ready .all-reached), all-used h (step-ready .well-formed .lawful) (step-ready .all-reached))
+      omega (
+        arith,
+        step-lowers,
+        all-used g lawful (ready .all-reached),
+        all-used h (step-ready .well-formed .lawful) (step-ready .all-reached),
+      )
 
   pub step-keeps-inputs : h .net .inputs ≡ g .net .inputs
   step-keeps-inputs = ap (λ (e : Graph). e .net .inputs) (s .becomes) ∙ finished-free g (s .root) (proposalOf (s .best))

@@ -37,7 +37,8 @@ runRefusals g b = not (wellFormed g) ⇒ BadGraph ∷ (noRoomFor g (b .result) |
 -- the needed words of the source graph g written: those of the graph h, and 0 beyond them
 unfoldable pub filledIn : Graph → Graph → Buffers → Buffers
 unfolding filled storedIn
-filledIn g h b = storedIn (graphOf (h .net .inputs) (filled (length (g .net .gates)) (h .net .gates)) (filled (length (g .outputs)) (h .outputs))) b
+filledIn g h b =
+    storedIn (graphOf (h .net .inputs) (filled (length (g .net .gates)) (h .net .gates)) (filled (length (g .outputs)) (h .outputs))) b
 
 -- no gate and no output
 abbrev pub nothing : Graph

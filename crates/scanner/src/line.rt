@@ -13,7 +13,8 @@ pub struct LineStep {
 
 // Reads a line of as many numbers as are lent, by one reader that is moved along. Where none stands there, the numbers are of no use.
 pub fn line_of(text: &[u8], at: usize, numbers: &mut [u32]) -> LineStep
-    ensures { λ r. ⌜ lineStep (now (text .entry)) (now (numbers .exit)) r ≡ lineOf (length (now (numbers .entry))) (drop at (now (text .entry))) ⌝ }
+    ensures { λ r. ⌜ lineStep (now (text .entry)) (now (numbers .exit)) r
+        ≡ lineOf (length (now (numbers .entry))) (drop at (now (text .entry))) ⌝ }
 {
     let mut reader = TextReader { text, at };
     let mut k: usize = 0;

@@ -42,10 +42,14 @@ module _ (need : Needed) (needs : List Needed) (t : List ℕ) where
       → readLines (need ∷ needs) t ≡ wrong r → FirstWrong (need ∷ needs) t r
   first-wrong-line r below e = go (lineOf (need .numbers) t) refl
     where
-      by-rule : (ns rest : List ℕ) → lineOf (need .numbers) t ≡ some (front ns rest) → (u : Bool) → need .rule ns ≡ u → FirstWrong (need ∷ needs) t r
-      by-rule ns rest q true f = later (line-of-iff (need .numbers) t ns rest .0 q) f (below rest (with-line-wrong ns (readLines needs rest) r (sym (at-right ns rest q f) ∙ e)))
+      by-rule : (ns rest : List ℕ) → lineOf (need .numbers) t ≡ some (front ns rest) → (u : Bool) → need .rule ns ≡ u
+          → FirstWrong (need ∷ needs) t r
+      by-rule ns rest q true f =
+          later (line-of-iff (need .numbers) t ns rest .0 q) f
+          (below rest (with-line-wrong ns (readLines needs rest) r (sym (at-right ns rest q f) ∙ e)))
       by-rule ns rest q false f =
-          subst (FirstWrong (need ∷ needs) t) (wrong-injective (sym (at-broken ns rest q f) ∙ e)) (breaks (line-of-iff (need .numbers) t ns rest .0 q) f)
+          subst (FirstWrong (need ∷ needs) t) (wrong-injective (sym (at-broken ns rest q f) ∙ e))
+          (breaks (line-of-iff (need .numbers) t ns rest .0 q) f)
 
       go : (o : Option (Front (List ℕ))) → lineOf (need .numbers) t ≡ o → FirstWrong (need ∷ needs) t r
       go none q =

@@ -87,7 +87,8 @@ module _ (need : ℕ → Needed) (n : ℕ) where
 
 pub data AllFit : List (List Needed) → List (List (List ℕ)) → Type 0 where
   no-section : AllFit [] []
-  section : {needs : List Needed} {nss : List (List ℕ)} {needss : List (List Needed)} {parts : List (List (List ℕ))} → Fits needs nss → AllFit needss parts
+  section : {needs : List Needed} {nss : List (List ℕ)} {needss : List (List Needed)} {parts : List (List (List ℕ))} → Fits needs nss
+      → AllFit needss parts
       → AllFit (needs ∷ needss) (nss ∷ parts)
 
 fits-append : (needs more : List Needed) (nss mss : List (List ℕ)) → Fits needs nss → Fits more mss → Fits (needs ++ more) (nss ++ mss)
@@ -95,9 +96,11 @@ fits-append [] more [] mss f g = g
 fits-append [] more (ns ∷ nss) mss f g = absurd (suc-ne-zero _ (f .count))
 fits-append (need ∷ needs) more [] mss f g = absurd (suc-ne-zero _ (sym (f .count)))
 fits-append (need ∷ needs) more (ns ∷ nss) mss f g =
-    fits-more need (needs ++ more) ns (nss ++ mss) (fits-first need needs ns nss f) (fits-append needs more nss mss (fits-later need needs ns nss f) g)
+    fits-more need (needs ++ more) ns (nss ++ mss) (fits-first need needs ns nss f)
+    (fits-append needs more nss mss (fits-later need needs ns nss f) g)
 
-pub all-fit-joined : {needss : List (List Needed)} {parts : List (List (List ℕ))} → AllFit needss parts → Fits (joined needss) (joined parts)
+pub all-fit-joined : {needss : List (List Needed)} {parts : List (List (List ℕ))} → AllFit needss parts
+    → Fits (joined needss) (joined parts)
 unfolding joined
 all-fit-joined no-section = fits-none
 all-fit-joined (section {needs} {nss} {needss} {parts} f a) = fits-append needs (joined needss) nss (joined parts) f (all-fit-joined a)
@@ -141,5 +144,6 @@ same-lengths : {needss : List (List Needed)} {parts : List (List (List ℕ))} �
 same-lengths no-section = refl
 same-lengths (section f a) = ap₂ (λ (n : ℕ) (ns : List ℕ). n ∷ ns) (sym (f .count)) (same-lengths a)
 
-pub joined-parts : {needss : List (List Needed)} {parts : List (List (List ℕ))} → AllFit needss parts → partsOf needss (joined parts) ≡ parts
+pub joined-parts : {needss : List (List Needed)} {parts : List (List (List ℕ))} → AllFit needss parts
+    → partsOf needss (joined parts) ≡ parts
 joined-parts {parts = parts} a = ap (λ (ns : List ℕ). cut ns (joined parts)) (same-lengths a) ∙ cut-joined parts

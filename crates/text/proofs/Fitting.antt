@@ -1,80 +1,23 @@
 -- Lines that fit a header are the lines of a lawful graph: the one that is read from them.
 -- Assumes nothing.
-use mathlib.Core.Path.{_≡_, refl, sym, ap, ap₂, _∙_, subst, subst⁻¹}
+use mathlib.Core.Path.{_≡_, refl, sym, ap, ap₂, _∙_, subst}
 use mathlib.Core.Bool.{Bool, true, false}
 use mathlib.Core.List.{List, [], _∷_, map, flatMap}
-use Prim.Native.Nat.{ℕ, zero, suc, _+_, _-_, _*_, _≤_, _<_, max, min, zero-le}
+use Prim.Native.Nat.{ℕ, suc, _+_, _-_, _*_, _≤_, _<_, max, min}
 use native.Mathlib.Omega.{arith}
-use borrow.Author.Tests.{leb-true, ltb-true, ltb-false, eqb-true}
-use lib.Dec.{ltb, eqb}
+use borrow.Author.Tests.{ltb-true, ltb-false}
+use lib.Dec.{ltb}
 use lib.ListN.{length, getD, length-map, List·getD-map}
 use Rattle.graph.specs.Lists.{gather, joined}
-use Rattle.graph.specs.Graph.{Graph, graphOf, size, first, second, IsGate, Lawful, WellFormed}
-use Rattle.graph.proofs.Lists.{and-left}
-use Rattle.graph.proofs.Members.{at-place}
-use Rattle.graph.proofs.Each.{Each, each-none, each-one, each-join, each-gather}
+use Rattle.graph.specs.Graph.{Graph, graphOf, size, first, second, IsGate, Lawful}
 use Rattle.graph.proofs.Gather.{gather-same, length-gather, getD-gather}
 use Rattle.graph.proofs.Gathered.{singles, length-singles, getD-singles, singles-are, flatMap-singles}
 use Rattle.text.specs.declared.header.Header.{Header}
 use Rattle.text.specs.States.{counts, inputNumbers, outputNumbers, gateLine, gateNumbers, sectionsOf}
-use Rattle.text.specs.Reading.{
-  headerOf,
-  freeOf,
-  Needed,
-  inputNeeded,
-  outputNeeded,
-  gateNeeded,
-  inputsNeeded,
-  outputsNeeded,
-  gatesNeeded,
-  sections,
-  linesNeeded,
-  gateWords,
-  graphIn,
-  graphRead,
-}
-use Rattle.text.proofs.Fits.{
-  Kept,
-  noNeed,
-  Fits,
-  section-count,
-  section-each,
-  AllFit,
-  no-section,
-  section,
-  partsOf,
-  parts-fit,
-  parts-joined,
-}
-use Rattle.text.proofs.States.{linesOf, lines-fit, words-at, gate-sides}
-
--- ---- one line
-
-module _ (ns : List ℕ) where
-  one-number : length ns ≡ 1 → ns ≡ getD ns 0 0 ∷ []
-  unfolding gather
-  one-number q = singles-are ns 1 0 q
-
-  three-numbers : length ns ≡ 3 → ns ≡ getD ns 0 0 ∷ getD ns 1 0 ∷ getD ns 2 0 ∷ []
-  unfolding gather
-  three-numbers q = singles-are ns 3 0 q
-
-  input-kept : (k : ℕ) → Kept (inputNeeded k) ns → ns ≡ 2 * k ∷ []
-  unfolding inputNeeded
-  input-kept k e = one-number (e .count) ∙ ap (λ (x : ℕ). x ∷ []) (eqb-true (getD ns 0 0) (2 * k) (e .rule))
-
-  output-kept : (h : Header) → Kept (outputNeeded h) ns → getD ns 0 0 ≤ 2 * h .highest + 1
-  unfolding outputNeeded
-  output-kept h e = leb-true (getD ns 0 0) (2 * h .highest + 1) (e .rule)
-
-  output-is : (h : Header) → Kept (outputNeeded h) ns → ns ≡ getD ns 0 0 ∷ []
-  unfolding outputNeeded
-  output-is h e = one-number (e .count)
-
-  module _ (v : ℕ) (e : Kept (gateNeeded v) ns) where
-    gate-is : ns ≡ 2 * v ∷ getD ns 1 0 ∷ getD ns 2 0 ∷ []
-    unfolding gateNeeded
-    gate-is = three-numbers (e .count) ∙ ap (λ (x : ℕ). x ∷ getD ns 1 0 ∷ getD ns 2 0 ∷ []) (eqb-true (getD ns 0 0) (2 * v) (and-left (eqb (getD ns 0 0) (2 * v)) _ (e .rule)))
+use Rattle.text.specs.Reading.{freeOf, inputNeeded, outputNeeded, gateNeeded, inputsNeeded, outputsNeeded, gatesNeeded, sections, linesNeeded, gateWords, graphIn, graphRead}
+use Rattle.text.proofs.Fits.{Kept, Fits, section-count, section-each, AllFit, no-section, section, partsOf, parts-fit, parts-joined}
+use Rattle.text.proofs.States.{linesOf, words-at, gate-sides}
+use Rattle.text.proofs.OneLine.{input-kept, output-kept, output-is, gate-is}
 
 -- ---- the sections of a header
 
@@ -123,7 +66,8 @@ module _ (h : Header) (parts : List (List (List ℕ))) (c : Cut h parts) where
 
   outputs-read : map (λ ns. getD ns 0 0) (getD parts 1 []) ≡ singles outputAt (h .outputs)
   outputs-read =
-      singles-are (map (λ ns. getD ns 0 0) (getD parts 1 [])) (h .outputs) 0 (length-map (getD parts 1 []) (λ ns. getD ns 0 0) ∙ output-count)
+      singles-are (map (λ ns. getD ns 0 0) (getD parts 1 [])) (h .outputs) 0
+      (length-map (getD parts 1 []) (λ ns. getD ns 0 0) ∙ output-count)
       ∙ gather-same _ _ (h .outputs) (λ j l. ap (λ (x : ℕ). x ∷ []) (List·getD-map (λ ns. getD ns 0 0) (getD parts 1 []) j []))
 
   graph-is : graphIn h parts ≡ read
@@ -220,7 +164,8 @@ module _ (h : Header) (parts : List (List (List ℕ))) (c : Cut h parts) where
       below = each-gate (λ v. first (read .net) v < 2 * v) below-read;
       sinks-within = λ j l.
           let m : j < h .outputs = omega (arith, outputs-count) in
-          rw (getD-singles outputAt (h .outputs) j 0 m) (omega (arith, output-kept (getD (getD parts 1 []) j []) h (output j m), size-read));
+          rw (getD-singles outputAt (h .outputs) j 0 m)
+          (omega (arith, output-kept (getD (getD parts 1 []) j []) h (output j m), size-read));
     }
 
 -- what is read from lines that fit, where the header's counts add up and there are no latches
@@ -249,66 +194,3 @@ module _ (h : Header) (nss : List (List ℕ)) (f : Fits (linesNeeded h) nss) whe
   pub read-counts : h .highest ≡ freeOf h + h .gates → h .latches ≡ 0
       → counts (graphRead h nss) ≡ h .highest ∷ h .inputs ∷ h .latches ∷ h .outputs ∷ h .gates ∷ []
   read-counts q z = rw (read-is, size-read h parts cut-read, outputs-count h parts cut-read, q, z)
-
--- ---- no number of these lines is above 2M + 1, and no line has more than three
-
-infixr 20 _and_
-data EachMost (m : ℕ) : List ℕ → Type 0 where
-  no-more : EachMost m []
-  _and_ : {x : ℕ} {xs : List ℕ} → x ≤ m → EachMost m xs → EachMost m (x ∷ xs)
-
-at-most : (m : ℕ) (xs : List ℕ) → EachMost m xs → (i : ℕ) → getD xs i 0 ≤ m
-at-most m xs no-more i = zero-le
-at-most m xs (h and l) zero = h
-at-most m xs (_and_ {xs = ys} h l) (suc i) = at-most m ys l i
-
-module _ (h : Header) where
-  -- what holds of each line that fits an input's, an output's and a gate's need
-  each-line : (P : List ℕ → Type 0) → ((k : ℕ) → k < h .inputs → (ns : List ℕ) → Kept (inputNeeded (suc k)) ns → P ns)
-      → ((ns : List ℕ) → Kept (outputNeeded h) ns → P ns) → ((k : ℕ) → k < h .gates → (ns : List ℕ) → Kept (gateNeeded (suc (freeOf h + k))) ns → P ns)
-      → (nss : List (List ℕ)) → Fits (linesNeeded h) nss → (j : ℕ) → j < length nss → P (getD nss j [])
-  unfolding linesNeeded joined sections
-  each-line P p q r nss f j l = fits-need (getD (linesNeeded h) j noNeed) (at-place noNeed (linesNeeded h) j within) (getD nss j []) (f .each j within)
-    where
-      within : j < length (linesNeeded h)
-      within = omega (arith, f .count)
-
-      Wanted : Needed → Type 0
-      Wanted need = (ns : List ℕ) → Kept need ns → P ns
-
-      fits-need : Each Wanted (linesNeeded h)
-      fits-need =
-          each-join Wanted (inputsNeeded h) _ (each-gather Wanted _ (h .inputs) (λ k m. each-one Wanted _ (p k m)))
-          (each-join Wanted (outputsNeeded h) _ (each-gather Wanted _ (h .outputs) (λ k m. each-one Wanted _ q))
-          (each-join Wanted (gatesNeeded h) [] (each-gather Wanted _ (h .gates) (λ k m. each-one Wanted _ (r k m))) (each-none Wanted)))
-
-  module _ (nss : List (List ℕ)) (f : Fits (linesNeeded h) nss) where
-    lines-small : h .highest ≡ freeOf h + h .gates → (j : ℕ) → j < length nss → (i : ℕ) → getD (getD nss j []) i 0 ≤ 2 * h .highest + 1
-    lines-small q j l =
-        let Small : List ℕ → Type 0 = EachMost (2 * h .highest + 1) in
-        at-most (2 * h .highest + 1) (getD nss j [])
-        (each-line Small
-        (λ k m ns e. subst⁻¹ Small (input-kept ns (suc k) e) (omega arith and no-more))
-        (λ ns e. subst⁻¹ Small (output-is ns h e) (output-kept ns h e and no-more))
-        (λ k m ns e.
-        let (x, y) = gate-sides ns (suc (freeOf h + k)) e in
-        subst⁻¹ Small (gate-is ns (suc (freeOf h + k)) e) (omega arith and omega arith and omega arith and no-more))
-        nss f j l)
-
-    pub lines-narrow : (j : ℕ) → j < length nss → length (getD nss j []) ≤ 3
-    unfolding inputNeeded outputNeeded gateNeeded
-    lines-narrow =
-        each-line (λ ns. length ns ≤ 3) (λ k m ns e. omega (arith, e .count)) (λ ns e. omega (arith, e .count)) (λ k m ns e. omega (arith, e .count)) nss f
-
--- the largest number in the text of a well-formed graph, 2(64 + 1024) + 1
-abbrev pub mostStated : ℕ
-mostStated = 2177
-
-module _ (g : Graph) (w : WellFormed g) where
-  pub counts-small : (i : ℕ) → getD (counts g) i 0 ≤ mostStated
-  counts-small =
-      at-most mostStated (counts g) (omega (arith, w) and omega (arith, w) and zero-le and omega (arith, w) and omega (arith, w) and no-more)
-
-  pub numbers-small : (s : ℕ → Bool) (j : ℕ) → j < length (linesOf g s) → (i : ℕ) → getD (getD (linesOf g s) j []) i 0 ≤ mostStated
-  numbers-small s j l i =
-      omega (arith, w, lines-small (headerOf (counts g)) (linesOf g s) (lines-fit g s (w .lawful)) refl j l i)

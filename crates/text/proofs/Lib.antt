@@ -3,7 +3,9 @@ pub mod Cases
 pub mod Line
 pub mod Fits
 pub mod States
+pub mod OneLine
 pub mod Fitting
+pub mod Small
 pub mod Spelling
 pub mod Reading
 pub mod RoundTrip

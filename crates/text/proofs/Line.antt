@@ -35,7 +35,8 @@ after-states [] t rest e = Option·some-injective t rest e
 after-states (b ∷ bs) [] rest e = absurd (Option·none-ne-some rest e)
 after-states (b ∷ bs) (c ∷ t) rest e = go (eqb b c) refl (after-states bs t rest) e
   where
-    go : (x : Bool) → eqb b c ≡ x → (after bs t ≡ some rest → t ≡ bs ++ rest) → cond x (after bs t) none ≡ some rest → c ∷ t ≡ b ∷ bs ++ rest
+    go : (x : Bool) → eqb b c ≡ x → (after bs t ≡ some rest → t ≡ bs ++ rest) → cond x (after bs t) none ≡ some rest
+        → c ∷ t ≡ b ∷ bs ++ rest
     go true q r h = ap₂ (λ (x : ℕ) (u : List ℕ). x ∷ u) (sym (eqb-true b c q)) (r h)
     go false q r h = absurd (Option·none-ne-some rest h)
 
@@ -61,7 +62,9 @@ module _ (n x : ℕ) (t ns rest : List ℕ) where
 
   shaped-first : Shaped (suc n) t (x ∷ ns) rest → t ≡ decimal x ++ (separator n ∷ (line ns ++ rest))
   unfolding line
-  shaped-first s = s .is ∙ append-assoc (decimal x) (separator (length ns) ∷ line ns) rest ∙ ap (λ (k : ℕ). decimal x ++ (separator k ∷ (line ns ++ rest))) (suc-inj (s .count))
+  shaped-first s =
+      s .is ∙ append-assoc (decimal x) (separator (length ns) ∷ line ns) rest
+      ∙ ap (λ (k : ℕ). decimal x ++ (separator k ∷ (line ns ++ rest))) (suc-inj (s .count))
 
   shaped-later : Shaped (suc n) t (x ∷ ns) rest → Shaped n (line ns ++ rest) ns rest
   shaped-later s = record { count = suc-inj (s .count); small = λ j l. s .small (suc j) (suc-le-suc l); is = refl }
@@ -114,8 +117,10 @@ lines-decode [] (y ∷ ns) t u q e = absurd (suc-ne-zero (length ns) (sym q))
 lines-decode (x ∷ ms) [] t u q e = absurd (suc-ne-zero (length ms) q)
 lines-decode (x ∷ ms) (y ∷ ns) t u q e =
     let (head, tail) =
-    decimals-decode x y (separator (length ms) ∷ (line ms ++ t)) (separator (length ns) ∷ (line ns ++ u)) (separator-ends (length ms)) (separator-ends (length ns))
-    (sym (append-assoc (decimal x) (separator (length ms) ∷ line ms) t) ∙ e ∙ append-assoc (decimal y) (separator (length ns) ∷ line ns) u) in
+    decimals-decode x y (separator (length ms) ∷ (line ms ++ t)) (separator (length ns) ∷ (line ns ++ u)) (separator-ends (length ms))
+    (separator-ends (length ns))
+    (sym (append-assoc (decimal x) (separator (length ms) ∷ line ms) t) ∙ e
+    ∙ append-assoc (decimal y) (separator (length ns) ∷ line ns) u) in
     let (later, after) = lines-decode ms ns t u (suc-inj q) (tail-eq-of-cons-eq tail) in
     (ap₂ (λ (z : ℕ) (zs : List ℕ). z ∷ zs) head later, after)
 
@@ -130,7 +135,8 @@ header-states t ns rest e =
 header-of : (t ns rest : List ℕ) → Headed t ns rest → headerLine t ≡ some (front ns rest)
 unfolding headerLine
 header-of t ns rest h =
-    ap (λ (o : Option (List ℕ)). o >>= lineOf 5) (ap (after aag) (h .is) ∙ after-of aag (h .after-aag)) ∙ line-of 5 (h .after-aag) ns rest (h .shaped)
+    ap (λ (o : Option (List ℕ)). o >>= lineOf 5) (ap (after aag) (h .is) ∙ after-of aag (h .after-aag))
+    ∙ line-of 5 (h .after-aag) ns rest (h .shaped)
 
 pub header-line-iff : (t ns rest : List ℕ) → (headerLine t ≡ some (front ns rest)) ↔ Headed t ns rest
 header-line-iff t ns rest = (header-states t ns rest, header-of t ns rest)

@@ -13,7 +13,20 @@ use lib.Dec.{leb, eqb}
 use lib.ListN.{length, getD, length-append}
 use Rattle.graph.specs.Lists.{all}
 use Rattle.graph.proofs.Lists.{at-most-or-above, and-left, and-right, and-both}
-use Rattle.text.specs.Number.{digit, isDigit, digits, decimal, Front, front, digitRun, valueFrom, noLeadingZero, mostNumber, isNumber, number}
+use Rattle.text.specs.Number.{
+  digit,
+  isDigit,
+  digits,
+  decimal,
+  Front,
+  front,
+  digitRun,
+  valueFrom,
+  noLeadingZero,
+  mostNumber,
+  isNumber,
+  number,
+}
 
 -- the text does not start with a digit
 abbrev pub NoDigitFirst : List ℕ → Type 0
@@ -34,7 +47,8 @@ digits-same : (k j n : ℕ) → n < k → n < j → digits k n ≡ digits j n
 digits-same zero j n h l = absurd (not-suc-le-zero h)
 digits-same (suc k) zero n h l = absurd (not-suc-le-zero l)
 digits-same (suc k) (suc j) n h l = ⊎-elim
-    (λ (m : 10 ≤ n). digits-more k n m ∙ ap (λ (bs : List ℕ). bs ++ (digit (n % 10) ∷ [])) (digits-same k j (n / 10) (omega arith) (omega arith)) ∙ sym (digits-more j n m))
+    (λ (m : 10 ≤ n). digits-more k n m
+    ∙ ap (λ (bs : List ℕ). bs ++ (digit (n % 10) ∷ [])) (digits-same k j (n / 10) (omega arith) (omega arith)) ∙ sym (digits-more j n m))
     (λ (o : n < 10). digits-one k n o ∙ sym (digits-one j n o))
     (at-most-or-above 10 n)
 
@@ -44,7 +58,9 @@ decimal-one n h = digits-one n n h
 
 pub decimal-more : (n : ℕ) → 10 ≤ n → decimal n ≡ decimal (n / 10) ++ (digit (n % 10) ∷ [])
 unfolding decimal
-decimal-more n h = digits-more n n h ∙ ap (λ (bs : List ℕ). bs ++ (digit (n % 10) ∷ [])) (digits-same n (suc (n / 10)) (n / 10) (omega arith) (le-refl (suc (n / 10))))
+decimal-more n h =
+    digits-more n n h
+    ∙ ap (λ (bs : List ℕ). bs ++ (digit (n % 10) ∷ [])) (digits-same n (suc (n / 10)) (n / 10) (omega arith) (le-refl (suc (n / 10))))
 
 pub decimal-longer : (n : ℕ) → 10 ≤ n → length (decimal n) ≡ suc (length (decimal (n / 10)))
 decimal-longer n h = omega (arith, simp length-append at (ap length (decimal-more n h)))
@@ -97,7 +113,8 @@ value-snoc (c ∷ bs) m b = value-snoc bs (10 * m + (c - 48)) b
 each-snoc : (bs : List ℕ) (b : ℕ) → all isDigit bs ≡ true → isDigit b ≡ true → all isDigit (bs ++ (b ∷ [])) ≡ true
 unfolding all
 each-snoc [] b e h = and-both _ _ h refl
-each-snoc (c ∷ bs) b e h = and-both _ _ (and-left (isDigit c) (all isDigit bs) e) (each-snoc bs b (and-right (isDigit c) (all isDigit bs) e) h)
+each-snoc (c ∷ bs) b e h =
+    and-both _ _ (and-left (isDigit c) (all isDigit bs) e) (each-snoc bs b (and-right (isDigit c) (all isDigit bs) e) h)
 
 -- the first of several digits is not 0
 lead-not-zero : (b c : ℕ) (bs : List ℕ) → noLeadingZero (b ∷ c ∷ bs) ≡ true → ¬ (b ≡ digit 0)
@@ -199,7 +216,9 @@ number-states t rest n e =
     let lead = and-left (noLeadingZero bs) (leb (valueFrom 0 bs) mostNumber) (c .0) in
     let most = leb-true (valueFrom 0 bs) mostNumber (and-right (noLeadingZero bs) (leb (valueFrom 0 bs) mostNumber) (c .0)) in (
       rw v at most,
-      run-is t .1 ∙ ap₂ (λ (x y : List ℕ). x ++ y) (writes-decimal bs n (record { each = run-is t .0; lead = lead; value = v })) (ap (λ (x : Front ℕ). x .rest) (c .1)),
+      run-is t .1
+          ∙ ap₂ (λ (x y : List ℕ). x ++ y) (writes-decimal bs n (record { each = run-is t .0; lead = lead; value = v }))
+          (ap (λ (x : Front ℕ). x .rest) (c .1)),
     )
 
 -- nothing else reads as the same digits
@@ -207,5 +226,6 @@ pub decimals-decode : (m n : ℕ) (t u : List ℕ) → NoDigitFirst t → NoDigi
 decimals-decode m n t u h l e =
     let w = decimal-writes (suc m) m (le-refl (suc m)) in
     let x = decimal-writes (suc n) n (le-refl (suc n)) in
-    let q : front (decimal m) t ≡ front (decimal n) u = sym (run-of (decimal m) t (w .each) h) ∙ ap digitRun e ∙ run-of (decimal n) u (x .each) l in
+    let q : front (decimal m) t ≡ front (decimal n) u =
+    sym (run-of (decimal m) t (w .each) h) ∙ ap digitRun e ∙ run-of (decimal n) u (x .each) l in
     (sym (w .value) ∙ ap (λ (r : Front (List ℕ)). valueFrom 0 (r .got)) q ∙ x .value, ap (λ (r : Front (List ℕ)). r .rest) q)

@@ -23,14 +23,33 @@ use Rattle.text.specs.declared.ReadText.{ReadText}
 use Rattle.text.specs.Number.{Front, front}
 use Rattle.text.specs.Line.{line, lines}
 use Rattle.text.specs.States.{aag, counts, numbersOf, spelling}
-use Rattle.text.specs.Reading.{Stated, headerOf, freeOf, headerLine, mostBytes, headerRefusals, linesNeeded, Lines, wrong, right, readLines, graphRead, Reading, refuses, yields, readBody, reading}
+use Rattle.text.specs.Reading.{
+  Stated,
+  headerOf,
+  freeOf,
+  headerLine,
+  mostBytes,
+  headerRefusals,
+  linesNeeded,
+  Lines,
+  wrong,
+  right,
+  readLines,
+  graphRead,
+  Reading,
+  refuses,
+  yields,
+  readBody,
+  reading,
+}
 use Rattle.text.specs.Refusals.{Headed, readRank}
 use Rattle.text.specs.Calls.{withRoom, readEffect}
 use Rattle.text.proofs.Cases.{refuses-not-yields, yields-injective}
 use Rattle.text.proofs.Line.{header-line-iff}
 use Rattle.graph.proofs.Gathered.{singles-are}
 use Rattle.text.proofs.States.{linesOf, text-is, lines-fit, graph-of-lines, swapsOf, bodyOf, stated-is}
-use Rattle.text.proofs.Fitting.{swapsRead, lines-of-read, read-lawful, read-counts, counts-small, numbers-small}
+use Rattle.text.proofs.Fitting.{swapsRead, lines-of-read, read-lawful, read-counts}
+use Rattle.text.proofs.Small.{counts-small, numbers-small}
 use Rattle.text.proofs.Spelling.{LinesAre, read-lines-iff}
 
 -- ---- the steps of reading
@@ -71,7 +90,8 @@ pub record WithinLimits (t : List ℕ) (h : Header) : Type 0 where
 
 module _ (t : List ℕ) (h : Header) where
   -- the tests of the three rows
-  pub large-iff : (ltb mostInputs (h .inputs) || ltb mostOutputs (h .outputs) || ltb mostGates (h .gates) || ltb mostBytes (length t) ≡ true)
+  pub large-iff : (ltb mostInputs (h .inputs) || ltb mostOutputs (h .outputs) || ltb mostGates (h .gates) || ltb mostBytes (length t)
+      ≡ true)
       ↔ (((mostInputs < h .inputs ⊎ mostOutputs < h .outputs) ⊎ mostGates < h .gates) ⊎ mostBytes < length t)
   large-iff = or-iff _ _ (or-iff _ _ (or-iff _ _ (ltb-iff _ _) (ltb-iff _ _)) (ltb-iff _ _)) (ltb-iff _ _)
 
@@ -116,12 +136,14 @@ module _ (t : List ℕ) (h : Header) where
 -- ---- what is read is stated
 
 module _ {P : Type 0} (g : Graph) where
-  header-yields : (o : Option (Front (List ℕ))) (f : Front (List ℕ) → Reading) → elim o [ none ↦ refuses BadHeader | some x ↦ f x ] ≡ yields g
+  header-yields : (o : Option (Front (List ℕ))) (f : Front (List ℕ) → Reading)
+      → elim o [ none ↦ refuses BadHeader | some x ↦ f x ] ≡ yields g
       → ((x : Front (List ℕ)) → o ≡ some x → f x ≡ yields g → P) → P
   header-yields none f e k = absurd (refuses-not-yields e)
   header-yields (some x) f e k = k x refl e
 
-  limits-yield : (o : Option Refusal) (y : Reading) → elim o [ some r ↦ refuses r | none ↦ y ] ≡ yields g → (o ≡ none → y ≡ yields g → P) → P
+  limits-yield : (o : Option Refusal) (y : Reading) → elim o [ some r ↦ refuses r | none ↦ y ] ≡ yields g → (o ≡ none → y ≡ yields g → P)
+      → P
   limits-yield none y e k = k refl e
   limits-yield (some r) y e k = absurd (refuses-not-yields e)
 
@@ -130,7 +152,8 @@ module _ {P : Type 0} (g : Graph) where
   lines-yield (wrong r) f e k = absurd (refuses-not-yields e)
   lines-yield (right nss) f e k = k nss refl (yields-injective e)
 
-module _ (t ns rest : List ℕ) (nss : List (List ℕ)) (d : Headed t ns rest) (a : WithinLimits t (headerOf ns)) (p : LinesAre (linesNeeded (headerOf ns)) rest nss) where
+module _ (t ns rest : List ℕ) (nss : List (List ℕ)) (d : Headed t ns rest) (a : WithinLimits t (headerOf ns))
+    (p : LinesAre (linesNeeded (headerOf ns)) rest nss) where
   abbrev graph : Graph
   graph = graphRead (headerOf ns) nss
 
@@ -172,7 +195,9 @@ module _ (t ns rest : List ℕ) (nss : List (List ℕ)) (d : Headed t ns rest) (
 reading-stated : (t : List ℕ) (g : Graph) → reading t ≡ yields g → Stated t g
 unfolding reading
 reading-stated t g e =
-    header-yields g (headerLine t) (λ x. elim (firstRefusal (headerRefusals t (headerOf (x .got)))) [ some r ↦ refuses r | none ↦ readBody (headerOf (x .got)) (x .rest) ]) e λ x ex e₁.
+    header-yields g (headerLine t)
+    (λ x. elim (firstRefusal (headerRefusals t (headerOf (x .got))))
+    [ some r ↦ refuses r | none ↦ readBody (headerOf (x .got)) (x .rest) ]) e λ x ex e₁.
     limits-yield g (firstRefusal (headerRefusals t (headerOf (x .got)))) (readBody (headerOf (x .got)) (x .rest)) e₁ λ el e₂.
     lines-yield g (readLines (linesNeeded (headerOf (x .got))) (x .rest)) (graphRead (headerOf (x .got))) e₂ λ nss en e₃.
     subst (Stated t) e₃

@@ -13,7 +13,7 @@ use Rattle.text.specs.States.{counts, textOf}
 use Rattle.text.specs.Reading.{headerOf, mostBytes, yields, reading}
 use Rattle.text.proofs.Number.{decimal-short}
 use Rattle.text.proofs.States.{linesOf, lines-count, unswapped, text-of-is, lines-fit, text-of-states}
-use Rattle.text.proofs.Fitting.{lines-narrow, mostStated, counts-small, numbers-small}
+use Rattle.text.proofs.Small.{lines-narrow, mostStated, counts-small, numbers-small}
 use Rattle.text.proofs.Reading.{reading-iff}
 
 -- four digits and a byte after them
@@ -49,4 +49,5 @@ text-of-short g w =
     ))
 
 pub round-trip : (g : Graph) → WellFormed g → reading (textOf g) ≡ yields g
-round-trip g w = reading-iff (textOf g) g .1 (record { states = text-of-states g (w .lawful); well-formed = w; few-bytes = text-of-short g w })
+round-trip g w =
+    reading-iff (textOf g) g .1 (record { states = text-of-states g (w .lawful); well-formed = w; few-bytes = text-of-short g w })

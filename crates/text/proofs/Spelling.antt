@@ -45,7 +45,8 @@ module _ {P : Type 0} (nss : List (List ℕ)) where
 -- ---- line by line
 
 module _ (need : Needed) (needs : List Needed) (t ns : List ℕ) (nss : List (List ℕ)) where
-  spelled-more : (u : List ℕ) → Shaped (need .numbers) t ns u → need .rule ns ≡ true → LinesAre needs u nss → LinesAre (need ∷ needs) t (ns ∷ nss)
+  spelled-more : (u : List ℕ) → Shaped (need .numbers) t ns u → need .rule ns ≡ true → LinesAre needs u nss
+      → LinesAre (need ∷ needs) t (ns ∷ nss)
   unfolding flatMap
   spelled-more u s e p = record {
     fits = fits-more need needs ns nss (record { count = s .count; rule = e }) (p .fits);
@@ -92,11 +93,13 @@ lines-spelled [] t nss e = go (skipped t) refl e
         })
     go false h e = absurd (wrong-not-right e)
 lines-spelled (need ∷ needs) t nss e =
-    line-right nss (lineOf (need .numbers) t) (λ x. elim (need .rule (x .got)) [ true ↦ withLine (x .got) (readLines needs (x .rest)) | false ↦ wrong BadLiteral ]) e λ x ex e₁.
+    line-right nss (lineOf (need .numbers) t)
+    (λ x. elim (need .rule (x .got)) [ true ↦ withLine (x .got) (readLines needs (x .rest)) | false ↦ wrong BadLiteral ]) e λ x ex e₁.
     rule-right nss (need .rule (x .got)) (withLine (x .got) (readLines needs (x .rest))) e₁ λ er e₂.
     later-right nss (x .got) (readLines needs (x .rest)) e₂ λ mss em e₃.
     subst (LinesAre (need ∷ needs) t) e₃
-    (spelled-more need needs t (x .got) mss (x .rest) (line-of-iff (need .numbers) t (x .got) (x .rest) .0 ex) er (lines-spelled needs (x .rest) mss em))
+    (spelled-more need needs t (x .got) mss (x .rest) (line-of-iff (need .numbers) t (x .got) (x .rest) .0 ex) er
+    (lines-spelled needs (x .rest) mss em))
 
 spelled-lines : (needs : List Needed) (t : List ℕ) (nss : List (List ℕ)) → LinesAre needs t nss → readLines needs t ≡ right nss
 unfolding readLines flatMap

@@ -16,7 +16,20 @@ use Rattle.graph.proofs.Graph.{first-at, second-at}
 use Rattle.graph.proofs.Gather.{gather-same, gather-is}
 use Rattle.graph.proofs.Gathered.{singles, getD-singles, length-singles, singles-are, flatMap-singles}
 use Rattle.text.specs.Line.{line, lines}
-use Rattle.text.specs.States.{aag, skipped, spelling, counts, inputNumbers, outputNumbers, gateLine, gateNumbers, sectionsOf, numbersOf, States, textOf}
+use Rattle.text.specs.States.{
+  aag,
+  skipped,
+  spelling,
+  counts,
+  inputNumbers,
+  outputNumbers,
+  gateLine,
+  gateNumbers,
+  sectionsOf,
+  numbersOf,
+  States,
+  textOf,
+}
 use Rattle.text.specs.Reading.{headerOf, inputNeeded, outputNeeded, gateNeeded, sections, linesNeeded, gateWords, graphIn, graphRead}
 use Rattle.text.proofs.Line.{lines-decode}
 use Rattle.text.proofs.Fits.{Kept, Fits, fits-decode, section-fits, AllFit, no-section, section, all-fit-joined, joined-parts}
@@ -32,7 +45,8 @@ lines-count g s =
     (omega arith)
 
 -- the first line's bytes, and then those of the others
-pub text-is : (g : Graph) (s : ℕ → Bool) (rest : List ℕ) → spelling (numbersOf g s) rest ≡ aag ++ (line (counts g) ++ (lines (linesOf g s) ++ rest))
+pub text-is : (g : Graph) (s : ℕ → Bool) (rest : List ℕ)
+    → spelling (numbersOf g s) rest ≡ aag ++ (line (counts g) ++ (lines (linesOf g s) ++ rest))
 unfolding spelling numbersOf flatMap
 text-is g s rest = ap (λ (t : List ℕ). aag ++ t) (append-assoc (line (counts g)) (lines (linesOf g s)) rest)
 
@@ -73,7 +87,8 @@ module _ (g : Graph) (s : ℕ → Bool) (w : Lawful g) where
   sections-fit =
       section (section-fits _ (g .net .inputs) _ (λ k l. record { count = refl; rule = eq-eqb (2 * suc k) (2 * suc k) refl }))
       (section (section-fits _ (length (g .outputs)) _ (λ j l. record { count = refl; rule = le-leb _ _ (w .sinks-within j l) }))
-      (section (section-fits _ (size (g .net)) _ (λ k l. gate-kept (g .net) _ (s k) (w .ordered _ (is-gate k l)) (w .below _ (is-gate k l)))) no-section))
+      (section (section-fits _ (size (g .net)) _ (λ k l. gate-kept (g .net) _ (s k) (w .ordered _ (is-gate k l))
+      (w .below _ (is-gate k l)))) no-section))
 
   pub lines-fit : Fits (linesNeeded (headerOf (counts g))) (linesOf g s)
   unfolding linesNeeded
@@ -83,7 +98,8 @@ module _ (g : Graph) (s : ℕ → Bool) (w : Lawful g) where
 
 -- the words of gate k are its literals
 module _ (net : Net) (k : ℕ) where
-  pub words-at : (i : ℕ) → i < 2 → getD (net .gates) (2 * k + i) 0 ≡ getD (first net (suc (free net + k)) ∷ second net (suc (free net + k)) ∷ []) i 0
+  pub words-at : (i : ℕ) → i < 2
+      → getD (net .gates) (2 * k + i) 0 ≡ getD (first net (suc (free net + k)) ∷ second net (suc (free net + k)) ∷ []) i 0
   words-at zero h = rw (add-zero (2 * k)) (sym (first-at net k))
   words-at (suc zero) h = sym (second-at net k)
   words-at (suc (suc i)) h = absurd (omega arith)
@@ -107,14 +123,16 @@ module _ (g : Graph) (s : ℕ → Bool) (w : Lawful g) where
   unfolding outputNumbers
   outputs-back =
       let nss = singles (λ j. getD (g .outputs) j 0 ∷ []) (length (g .outputs)) in
-      singles-are (map (λ ns. getD ns 0 0) nss) (length (g .outputs)) 0 (length-map nss (λ ns. getD ns 0 0) ∙ length-singles _ (length (g .outputs)))
+      singles-are (map (λ ns. getD ns 0 0) nss) (length (g .outputs)) 0
+      (length-map nss (λ ns. getD ns 0 0) ∙ length-singles _ (length (g .outputs)))
       ∙ gather-same _ _ (length (g .outputs)) (λ j l. ap (λ (x : ℕ). x ∷ [])
       (List·getD-map (λ ns. getD ns 0 0) nss j [] ∙ ap (λ (ns : List ℕ). getD ns 0 0) (getD-singles _ (length (g .outputs)) j [] l)))
       ∙ sym (singles-are (g .outputs) (length (g .outputs)) 0 refl)
 
   pub graph-of-lines : graphRead (headerOf (counts g)) (linesOf g s) ≡ g
   unfolding graphRead graphIn sectionsOf
-  graph-of-lines = ap (graphIn (headerOf (counts g))) (joined-parts (sections-fit g s w)) ∙ ap₂ (graphOf (g .net .inputs)) gates-back outputs-back
+  graph-of-lines =
+      ap (graphIn (headerOf (counts g))) (joined-parts (sections-fit g s w)) ∙ ap₂ (graphOf (g .net .inputs)) gates-back outputs-back
 
 -- ---- what a text states
 

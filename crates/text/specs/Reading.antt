@@ -134,7 +134,8 @@ unfolding headerLine headerRefusals firstRefusal readBody
 reading t =
     elim (headerLine t) [
       | none ↦ refuses BadHeader
-      | some x ↦ elim (firstRefusal (headerRefusals t (headerOf (x .got)))) [ some r ↦ refuses r | none ↦ readBody (headerOf (x .got)) (x .rest) ]
+      | some x ↦ elim (firstRefusal (headerRefusals t (headerOf (x .got))))
+          [ some r ↦ refuses r | none ↦ readBody (headerOf (x .got)) (x .rest) ]
     ]
 
 -- what reading accepts: the text states the graph, and both keep to the limits

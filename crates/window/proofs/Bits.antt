@@ -81,7 +81,8 @@ pub pack-ext : (n : ℕ) (f g : ℕ → Bool) → ((i : ℕ) → i < n → f i �
 unfolding pack
 pack-ext zero f g h = refl
 pack-ext (suc n) f g h =
-    ap₂ (λ (x : ℕ) (b : Bool). x * 2 + digit b) (pack-ext n (λ i. f (suc i)) (λ i. g (suc i)) (λ i l. h (suc i) (omega arith))) (h 0 (zero-lt-suc n))
+    ap₂ (λ (x : ℕ) (b : Bool). x * 2 + digit b) (pack-ext n (λ i. f (suc i)) (λ i. g (suc i)) (λ i l. h (suc i) (omega arith)))
+    (h 0 (zero-lt-suc n))
 
 -- the bits of the number are those that it was made of
 pub bit-pack : (n : ℕ) (f : ℕ → Bool) (i : ℕ) → i < n → bit (pack n f) i ≡ f i

@@ -31,7 +31,8 @@ module _ (limit : ℕ) (net : Net) (xs : List ℕ) where
   expandable-in : (v : ℕ) → Expandable limit net xs v → v ∈ expandables
   unfolding expandables
   expandable-in v c =
-      in-keep (λ v. leb (length (expand net xs v)) limit) (keep (λ v. ltb (free net) v) xs) (in-keep (λ v. ltb (free net) v) xs (c .is-leaf) (lt-ltb _ _ (c .is-gate)))
+      in-keep (λ v. leb (length (expand net xs v)) limit) (keep (λ v. ltb (free net) v) xs)
+      (in-keep (λ v. ltb (free net) v) xs (c .is-leaf) (lt-ltb _ _ (c .is-gate)))
       (le-leb _ _ (c .few))
 
   expansions-are : expansions limit net xs ≡ map (expand net xs) expandables
@@ -60,7 +61,9 @@ module _ (limit : ℕ) (net : Net) (xs : List ℕ) where
         is-expandable = expandable-of v (at-place 0 expandables (s .place) inside);
         expanded = sym (map-at (expand net xs) 0 [] expandables (s .place) inside) ∙ s .there;
         none-smaller = λ u c. let p = expansion-at u c in rw (p .3) at (s .none-shorter (p .0) (omega (arith, p .1, as-many)));
-        higher-larger = λ u c h. let p = expansion-at u c in rw (p .3) at (s .later-longer (p .0) (behind u (p .0) (p .2) h) (omega (arith, p .1, as-many)));
+        higher-larger =
+            λ u c h. let p = expansion-at u c in
+            rw (p .3) at (s .later-longer (p .0) (behind u (p .0) (p .2) h) (omega (arith, p .1, as-many)));
       }
     where
       as-many : length (map (expand net xs) expandables) ≡ length expandables

@@ -16,7 +16,19 @@ use Rattle.window.specs.Leaves.{ascendsFrom, leafList, leavesOf}
 use Rattle.window.specs.Local.{Covered, zero-is, leaf-is, gate-is}
 use Rattle.window.specs.LeafRule.{insert, remove, withFanins, expand}
 use Rattle.window.proofs.Leaves.{leaves-of-list}
-use Rattle.window.proofs.Sets.{ascends-nil, insert-is, insert-has, insert-keeps, insert-from, insert-length, insert-ascends, remove-is, remove-from, remove-keeps, remove-ascends}
+use Rattle.window.proofs.Sets.{
+  ascends-nil,
+  insert-is,
+  insert-has,
+  insert-keeps,
+  insert-from,
+  insert-length,
+  insert-ascends,
+  remove-is,
+  remove-from,
+  remove-keeps,
+  remove-ascends,
+}
 use Rattle.window.proofs.Weight.{weight, fanins-weight, remove-weight}
 
 -- ---- the fanin variables of a gate put in
@@ -64,14 +76,17 @@ module _ (net : Net) where
   covered-through : (xs ys : List ℕ) {u : ℕ} → ((v : ℕ) → v ∈ xs → Covered net (leavesOf ys) v) → Covered net (leavesOf xs) u
       → Covered net (leavesOf ys) u
   covered-through xs ys f zero-is = zero-is
-  covered-through xs ys f (leaf-is j h) = f _ (subst (λ (zs : List ℕ). getD (leafList (leavesOf xs)) j 0 ∈ zs) (leaves-of-list xs) (at-place 0 (leafList (leavesOf xs)) j h))
+  covered-through xs ys f (leaf-is j h) =
+      f _ (subst (λ (zs : List ℕ). getD (leafList (leavesOf xs)) j 0 ∈ zs) (leaves-of-list xs) (at-place 0 (leafList (leavesOf xs)) j h))
   covered-through xs ys f (gate-is i p q) = gate-is i (covered-through xs ys f p) (covered-through xs ys f q)
 
   zero-or-member : (xs : List ℕ) {v : ℕ} → (v ≡ 0) ⊎ (v ∈ xs) → Covered net (leavesOf xs) v
   zero-or-member xs s = ⊎-elim (λ e. subst (Covered net (leavesOf xs)) (sym e) zero-is) (λ i. member-covered xs i) s
 
   fanins-cover : (v : ℕ) (xs : List ℕ) → IsGate net v → Covered net (leavesOf (withFanins net v xs)) v
-  fanins-cover v xs i = gate-is i (zero-or-member (withFanins net v xs) (fanins-first net v xs)) (zero-or-member (withFanins net v xs) (fanins-second net v xs))
+  fanins-cover v xs i =
+      gate-is i (zero-or-member (withFanins net v xs) (fanins-first net v xs))
+      (zero-or-member (withFanins net v xs) (fanins-second net v xs))
 
 -- ---- the sets of the leaf rule
 
@@ -94,7 +109,8 @@ module _ (g : Graph) (law : Lawful g) where
 
   fanins-weigh : (v : ℕ) (xs : List ℕ) → IsGate net v → weight (withFanins net v xs) < 2 ^ v + weight xs
   unfolding withFanins
-  fanins-weigh v xs i = fanins-weight v (varOf (first net v)) (varOf (second net v)) xs (omega (arith, law .ordered v i)) (omega (arith, law .below v i))
+  fanins-weigh v xs i =
+      fanins-weight v (varOf (first net v)) (varOf (second net v)) xs (omega (arith, law .ordered v i)) (omega (arith, law .below v i))
 
   pub start-weighs : (root : ℕ) → IsGate net root → weight (withFanins net root []) < 2 ^ root
   unfolding weight
@@ -118,7 +134,8 @@ module _ (g : Graph) (law : Lawful g) where
       record {
         ascending = fanins-ascend net v (remove v xs) (remove-ascends 0 (remove-is v xs) (c .ascending));
         below-root =
-            fanins-below v root (remove v xs) i (omega (arith, c .below-root v j)) (λ u k. c .below-root u (remove-from (remove-is v xs) k));
+            fanins-below v root (remove v xs) i (omega (arith, c .below-root v j))
+            (λ u k. c .below-root u (remove-from (remove-is v xs) k));
         cuts = covered-through net xs (withFanins net v (remove v xs)) kept (c .cuts);
       }
     where

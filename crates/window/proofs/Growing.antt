@@ -21,7 +21,23 @@ use Rattle.window.specs.Leaves.{leafLimit, numbers, variables, leafList,
 use Rattle.window.specs.LeafRule.{put, insert, remove, withFanins}
 use Rattle.window.specs.Growing.{grownFrom, fitting, grownOf, Tidy}
 use Rattle.window.proofs.Leaves.{leaves-of-list}
-use Rattle.window.proofs.Sets.{Put, at-end, before, already, after, put-is, Insert, skipped, inserted, insert-is, Remove, absent, found, passed, remove-is}
+use Rattle.window.proofs.Sets.{
+  Put,
+  at-end,
+  before,
+  already,
+  after,
+  put-is,
+  Insert,
+  skipped,
+  inserted,
+  insert-is,
+  Remove,
+  absent,
+  found,
+  passed,
+  remove-is,
+}
 
 -- ---- places by number
 
@@ -76,7 +92,8 @@ module _ (w : Leaves) (xs : List ℕ) (e : w ≡ leavesOf xs) where
 pub tidy-count : {w : Leaves} → Tidy w → w .count ≡ length (leafList w)
 tidy-count {w} t = count-of w (leafList w) (sym (t .same))
 
-set-after : (xs : List ℕ) (m : ℕ) (v : Var) → set (variables (xs ++ replicate (suc m) 0)) (length xs) v ≡ variables ((xs ++ (v .0 ∷ [])) ++ replicate m 0)
+set-after : (xs : List ℕ) (m : ℕ) (v : Var)
+    → set (variables (xs ++ replicate (suc m) 0)) (length xs) v ≡ variables ((xs ++ (v .0 ∷ [])) ++ replicate m 0)
 unfolding variables
 set-after [] m v = refl
 set-after (x ∷ xs) m v = ap (λ (vs : List Var). record { 0 = x } ∷ vs) (set-after xs m v)
@@ -89,7 +106,8 @@ filled-after xs v h =
     ap (λ (m : ℕ). set (variables (xs ++ replicate m 0)) (length xs) v) e ∙ set-after xs (leafLimit - length (xs ++ (v .0 ∷ []))) v
 
 one-after : (xs : List ℕ) (v : Var) → length xs < leafLimit
-    → _≡_ {A = Leaves} (record { count = leavesOf xs .count + 1; places = set (leavesOf xs .places) (leavesOf xs .count) v }) (leavesOf (xs ++ (v .0 ∷ [])))
+    → _≡_ {A = Leaves} (record { count = leavesOf xs .count + 1; places = set (leavesOf xs .places) (leavesOf xs .count) v })
+    (leavesOf (xs ++ (v .0 ∷ [])))
 unfolding leavesOf
 one-after xs v h =
     ap₂ (λ (n : ℕ) (ps : List Var). record { count = n; places = ps }) (sym (length-append xs (v .0 ∷ []))) (filled-after xs v h)
@@ -188,13 +206,22 @@ module _ (v : ℕ) (xs : List ℕ) (k : ℕ) where
   unfolding isIn
   in-end h e = e ∙ rw (drop-of-length-le xs {i = k} h)
 
-  pub put-more : k < length xs → getD xs k 0 < v → put v xs ≡ take k xs ++ put v (drop k xs) → put v xs ≡ take (k + 1) xs ++ put v (drop (k + 1) xs)
+  pub put-more : k < length xs → getD xs k 0 < v → put v xs ≡ take k xs ++ put v (drop k xs)
+      → put v xs ≡ take (k + 1) xs ++ put v (drop (k + 1) xs)
   unfolding put
   put-more h l e =
       let n : ¬ (v ≡ getD xs k 0) = omega arith in
-      e ∙ rw (add-one k, drop-cons xs k 0 h, le-ltb v (getD xs k 0) (omega arith), ne-eqb v (getD xs k 0) n, take-suc xs k 0 h, append-assoc)
+      e ∙ rw (
+        add-one k,
+        drop-cons xs k 0 h,
+        le-ltb v (getD xs k 0) (omega arith),
+        ne-eqb v (getD xs k 0) n,
+        take-suc xs k 0 h,
+        append-assoc,
+      )
 
-  pub put-before : k < length xs → v < getD xs k 0 → put v xs ≡ take k xs ++ put v (drop k xs) → (take k xs ++ (v ∷ [])) ++ drop k xs ≡ put v xs
+  pub put-before : k < length xs → v < getD xs k 0 → put v xs ≡ take k xs ++ put v (drop k xs)
+      → (take k xs ++ (v ∷ [])) ++ drop k xs ≡ put v xs
   unfolding put
   put-before h l e = sym (e ∙ rw (drop-cons xs k 0 h, lt-ltb v (getD xs k 0) l, append-assoc))
 
@@ -207,14 +234,16 @@ module _ (v : ℕ) (xs : List ℕ) (k : ℕ) where
   put-end h e = sym (e ∙ rw (drop-of-length-le xs {i = k} h))
 
   pub put-end-long : length xs ≤ k → put v xs ≡ take k xs ++ put v (drop k xs) → length (put v xs) ≡ length xs + 1
-  put-end-long h e = ap length (sym (put-end h e)) ∙ length-append (take k xs) (v ∷ []) ∙ ap (λ (ys : List ℕ). length ys + 1) (take-all k xs h)
+  put-end-long h e =
+      ap length (sym (put-end h e)) ∙ length-append (take k xs) (v ∷ []) ∙ ap (λ (ys : List ℕ). length ys + 1) (take-all k xs h)
 
   pub remove-more : k < length xs → ¬ (v ≡ getD xs k 0) → remove v xs ≡ take k xs ++ remove v (drop k xs)
       → remove v xs ≡ take (k + 1) xs ++ remove v (drop (k + 1) xs)
   unfolding remove
   remove-more h n e = e ∙ rw (add-one k, drop-cons xs k 0 h, ne-eqb v (getD xs k 0) n, take-suc xs k 0 h, append-assoc)
 
-  pub remove-here : k < length xs → v ≡ getD xs k 0 → remove v xs ≡ take k xs ++ remove v (drop k xs) → take k xs ++ drop (k + 1) xs ≡ remove v xs
+  pub remove-here : k < length xs → v ≡ getD xs k 0 → remove v xs ≡ take k xs ++ remove v (drop k xs)
+      → take k xs ++ drop (k + 1) xs ≡ remove v xs
   unfolding remove
   remove-here h q e = sym (e ∙ rw (drop-cons xs k 0 h, eq-eqb v (getD xs k 0) q, add-one k))
 
@@ -283,7 +312,8 @@ module _ (inputs : ℕ) (gates : List ℕ) (v at : ℕ) (e : at ≡ v - (inputs 
 
   pub second-word : varOf (second (netOf inputs gates) v) ≡ getD gates (2 * at + 1) 0 / 2
   unfolding second
-  second-word = ap (λ (k : ℕ). getD gates k 0 / 2) (sym (add-one (2 * at) ∙ ap (λ (k : ℕ). suc (2 * k)) (e ∙ ap (λ (k : ℕ). v - k) (add-one inputs))))
+  second-word =
+      ap (λ (k : ℕ). getD gates k 0 / 2) (sym (add-one (2 * at) ∙ ap (λ (k : ℕ). suc (2 * k)) (e ∙ ap (λ (k : ℕ). v - k) (add-one inputs))))
 
 -- the fanin variables a and b put in one after the other, b first
 module _ (net : Net) (v a b : ℕ) (xs : List ℕ) (p : varOf (first net v) ≡ a) (q : varOf (second net v) ≡ b) where

@@ -14,7 +14,20 @@ use Rattle.graph.proofs.Lists.{at-most-or-above}
 use Rattle.graph.proofs.Members.{none-in}
 use Rattle.window.specs.Leaves.{leafLimit, leafList, WellSet}
 use Rattle.window.specs.Local.{Covered}
-use Rattle.window.specs.LeafRule.{Expandable, Chosen, Follows, stops, takes, withFanins, expand, expansions, smallest, grow, ruleLeaves, picked}
+use Rattle.window.specs.LeafRule.{
+  Expandable,
+  Chosen,
+  Follows,
+  stops,
+  takes,
+  withFanins,
+  expand,
+  expansions,
+  smallest,
+  grow,
+  ruleLeaves,
+  picked,
+}
 use Rattle.window.proofs.Leaves.{leaves-of-list, leaves-of-well-set}
 use Rattle.window.proofs.Weight.{weight, weightless}
 use Rattle.window.proofs.Smallest.{none-smallest}
@@ -27,7 +40,8 @@ module _ {limit : ℕ} {net : Net} where
   follows-ends (takes c f) = follows-ends f
 
   -- what each step keeps, the rule keeps
-  follows-keeps : (P : List ℕ → Type 0) → ((xs ys : List ℕ) → P xs → Chosen limit net xs ys → P ys) → {xs zs : List ℕ} → Follows limit net xs zs
+  follows-keeps : (P : List ℕ → Type 0) → ((xs ys : List ℕ) → P xs → Chosen limit net xs ys → P ys) → {xs zs : List ℕ}
+      → Follows limit net xs zs
       → P xs → P zs
   follows-keeps P k (stops e) p = p
   follows-keeps P k (takes {xs} {ys} c f) p = follows-keeps P k f (k xs ys p c)
@@ -59,7 +73,8 @@ module _ (g : Graph) (law : Lawful g) (limit root : ℕ) (gate : IsGate (g .net)
   open Graph g using (net)
 
   chosen-gate : {xs ys : List ℕ} → CutUnder net root xs → (c : Chosen limit net xs ys) → IsGate net (c .leaf)
-  chosen-gate u c = record { above = c .is-expandable .is-gate; within = omega (arith, u .below-root (c .leaf) (c .is-expandable .is-leaf)) }
+  chosen-gate u c =
+      record { above = c .is-expandable .is-gate; within = omega (arith, u .below-root (c .leaf) (c .is-expandable .is-leaf)) }
 
   pub chosen-cuts : (xs ys : List ℕ) → CutUnder net root xs → Chosen limit net xs ys → CutUnder net root ys
   chosen-cuts xs ys u c = rw (c .expanded) at (expand-cuts g law root xs (c .leaf) (chosen-gate u c) (c .is-expandable .is-leaf) u)
@@ -70,7 +85,8 @@ module _ (g : Graph) (law : Lawful g) (limit root : ℕ) (gate : IsGate (g .net)
   -- each step makes the set lighter, so as many steps as the weight are enough
   grow-follows : (n : ℕ) (xs : List ℕ) → CutUnder net root xs → weight xs ≤ n → Follows limit net xs (grow limit net n xs)
   unfolding grow
-  grow-follows zero xs u h = stops (subst (λ (ys : List ℕ). (v : ℕ) → ¬ Expandable limit net ys v) (sym (weightless xs h)) (none-in-empty limit net))
+  grow-follows zero xs u h =
+      stops (subst (λ (ys : List ℕ). (v : ℕ) → ¬ Expandable limit net ys v) (sym (weightless xs h)) (none-in-empty limit net))
   grow-follows (suc n) xs u h = go (smallest (expansions limit net xs)) refl (λ ys. grow-follows n ys)
     where
       go : (o : Option (List ℕ)) → smallest (expansions limit net xs) ≡ o
@@ -109,7 +125,8 @@ module _ (g : Graph) (law : Lawful g) (root : ℕ) (gate : IsGate (g .net) root)
   unfolding picked
   picked-well-set =
       let c = rule-cuts g law leafLimit root gate in
-      leaves-of-well-set root (ruleLeaves leafLimit net root) (rule-few g law leafLimit root gate (omega arith)) (c .ascending) (c .below-root)
+      leaves-of-well-set root (ruleLeaves leafLimit net root) (rule-few g law leafLimit root gate (omega arith)) (c .ascending)
+      (c .below-root)
 
   pub picked-cuts : Covered net (picked net root) root
   unfolding picked
@@ -119,7 +136,8 @@ module _ (g : Graph) (law : Lawful g) (root : ℕ) (gate : IsGate (g .net) root)
   unfolding picked
   picked-list = leaves-of-list (ruleLeaves leafLimit net root)
 
-  pub picked-no-expansion : (v : ℕ) → v ∈ leafList (picked net root) → free net < v → leafLimit < length (expand net (leafList (picked net root)) v)
+  pub picked-no-expansion : (v : ℕ) → v ∈ leafList (picked net root) → free net < v
+      → leafLimit < length (expand net (leafList (picked net root)) v)
   picked-no-expansion v m h = ⊎-elim
       (λ l.
       absurd (subst (λ (xs : List ℕ). (u : ℕ) → ¬ Expandable leafLimit net xs u) (sym picked-list) (rule-ends g law leafLimit root gate) v

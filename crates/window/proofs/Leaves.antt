@@ -22,7 +22,8 @@ unfolding wellSet
 well-is root w = refl
 
 -- a place past the leaves is a place of the rest
-rest-at : (w : Leaves) (j : ℕ) → w .count ≤ j → getD (drop (w .count) (numbers (w .places))) (j - w .count) 0 ≡ getD (numbers (w .places)) j 0
+rest-at : (w : Leaves) (j : ℕ) → w .count ≤ j
+    → getD (drop (w .count) (numbers (w .places))) (j - w .count) 0 ≡ getD (numbers (w .places)) j 0
 rest-at w j h =
     let e : w .count + (j - w .count) ≡ j = omega arith in
     getD-drop (w .count) (numbers (w .places)) (j - w .count) 0 ∙ ap (λ (k : ℕ). getD (numbers (w .places)) k 0) e
@@ -38,7 +39,9 @@ module _ (root : ℕ) (w : Leaves) where
         ascending = ascends-places 0 (leafList w) (at 1);
         below-root = λ j h. ltb-true _ _ (all-at (λ v. ltb v root) 0 (leafList w) (at 2) j h);
         unused-zero = λ j h. ⊎-elim
-            (λ l. sym (rest-at w j h) ∙ eqb-true _ _ (all-at (λ x. eqb x 0) 0 (drop (w .count) (numbers (w .places))) (at 3) (j - w .count) (omega (arith, length-drop (w .count) (numbers (w .places))))))
+            (λ l. sym (rest-at w j h)
+            ∙ eqb-true _ _ (all-at (λ x. eqb x 0) 0 (drop (w .count) (numbers (w .places))) (at 3) (j - w .count)
+            (omega (arith, length-drop (w .count) (numbers (w .places))))))
             (λ l. List·getD-eq-default (numbers (w .places)) 0 (omega arith))
             (at-most-or-above (suc j) (length (numbers (w .places))));
       }
@@ -51,7 +54,8 @@ module _ (root : ℕ) (w : Leaves) where
       (le-leb _ _ (s .few)
       then ascends-of 0 (leafList w) (s .at-least-one) (s .ascending)
       then all-of (λ v. ltb v root) 0 (leafList w) (λ j h. lt-ltb _ _ (s .below-root j h))
-      then all-of (λ x. eqb x 0) 0 (drop (w .count) (numbers (w .places))) (λ j h. eq-eqb _ _ (getD-drop (w .count) (numbers (w .places)) j 0 ∙ s .unused-zero (w .count + j) (omega arith)))
+      then all-of (λ x. eqb x 0) 0 (drop (w .count) (numbers (w .places)))
+      (λ j h. eq-eqb _ _ (getD-drop (w .count) (numbers (w .places)) j 0 ∙ s .unused-zero (w .count + j) (omega arith)))
       then done)
 
   pub well-set-iff : (wellSet root w ≡ true) ↔ WellSet root w
@@ -81,6 +85,10 @@ leaves-of-well-set root xs few up below =
       few = few;
       at-least-one = ascends-above 0 (leafList (leavesOf xs)) (ap (ascendsFrom 0) (leaves-of-list xs) ∙ up);
       ascending = ascends-places 0 (leafList (leavesOf xs)) (ap (ascendsFrom 0) (leaves-of-list xs) ∙ up);
-      below-root = λ j h. below _ (subst (λ (ys : List ℕ). getD (leafList (leavesOf xs)) j 0 ∈ ys) (leaves-of-list xs) (at-place 0 (leafList (leavesOf xs)) j h));
-      unused-zero = λ j h. ap (λ (ys : List ℕ). getD ys j 0) (numbers-back (filled leafLimit xs)) ∙ filled-past leafLimit xs j 0 h ∙ replicate-at 0 (leafLimit - length xs) (j - length xs);
+      below-root =
+          λ j h. below _ (subst (λ (ys : List ℕ). getD (leafList (leavesOf xs)) j 0 ∈ ys) (leaves-of-list xs)
+          (at-place 0 (leafList (leavesOf xs)) j h));
+      unused-zero =
+          λ j h. ap (λ (ys : List ℕ). getD ys j 0) (numbers-back (filled leafLimit xs)) ∙ filled-past leafLimit xs j 0 h
+          ∙ replicate-at 0 (leafLimit - length xs) (j - length xs);
     }

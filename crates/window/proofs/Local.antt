@@ -100,11 +100,13 @@ module _ (g : Graph) (law : Lawful g) (w : Leaves) where
   second-below : (n : ℕ) → IsGate net (suc n) → varOf (second net (suc n)) ≤ n
   second-below n i = omega (arith, law .below (suc n) i, law .ordered (suc n) i)
 
-  by-gate : (v : ℕ) → IsGate net v → covered net w (varOf (first net v)) ≡ true → covered net w (varOf (second net v)) ≡ true → covered net w v ≡ true
+  by-gate : (v : ℕ) → IsGate net v → covered net w (varOf (first net v)) ≡ true → covered net w (varOf (second net v)) ≡ true
+      → covered net w v ≡ true
   by-gate zero i a b = covered-zero net w
   by-gate (suc n) i a b = covered-or-missed net w n
       (λ e.
-      covered-gate net w n e (i .above) ∙ and-both _ _ (covers-at net w n _ (first-below n i) ∙ a) (covers-at net w n _ (second-below n i) ∙ b))
+      covered-gate net w n e (i .above)
+      ∙ and-both _ _ (covers-at net w n _ (first-below n i) ∙ a) (covers-at net w n _ (second-below n i) ∙ b))
 
   is-covered : {v : ℕ} → Covered net w v → covered net w v ≡ true
   is-covered zero-is = covered-zero net w
@@ -123,8 +125,11 @@ module _ (g : Graph) (law : Lawful g) (w : Leaves) where
       (below _ (second-below n i) (sym (covers-at net w n _ (second-below n i)) ∙ b)))
 
   pub covered-iff : (v : ℕ) → v ≤ last net → (covered net w v ≡ true) ↔ Covered net w v
-  covered-iff v h =
-      (strong (λ v. v ≤ last net → covered net w v ≡ true → Covered net w v) (λ _ _. zero-is) (λ n r l. covers-next n l (λ u k. r u k (omega arith))) v h, is-covered)
+  covered-iff v h = (
+    strong (λ v. v ≤ last net → covered net w v ≡ true → Covered net w v) (λ _ _. zero-is)
+        (λ n r l. covers-next n l (λ u k. r u k (omega arith))) v h,
+    is-covered,
+  )
 
 -- ---- the value of a covered variable
 
@@ -160,7 +165,8 @@ module _ (net : Net) (w : Leaves) (a : ℕ → Bool) where
   agrees-next : (n : ℕ) → ((v : ℕ) → v ≤ n → Agrees v) → Agrees (suc n)
   unfolding localAt
   agrees-next n below c = covered-cases net w n c
-      (λ j e. ap value (sym (leaf-found w (suc n) j e .1)) ∙ sym (own-value bools (leafOwn w leafValue) net n (leafValue j) (own-by (suc n) (some j) e)))
+      (λ j e. ap value (sym (leaf-found w (suc n) j e .1))
+      ∙ sym (own-value bools (leafOwn w leafValue) net n (leafValue j) (own-by (suc n) (some j) e)))
       (λ e h p q.
       gate-value bools (assigned net a) net n (assigned-gate net a (suc n) h) h
       ∙ ap₂ (bools .conj) (literals-agree n (first net (suc n)) below p) (literals-agree n (second net (suc n)) below q)

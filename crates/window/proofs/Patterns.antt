@@ -52,7 +52,8 @@ local-by-pattern net w c a v =
     ∙ ap (λ (xs : List Bool). getD xs v false) (locals-by-pattern net w c a v)
     ∙ local-stays net w (bit (pack leafLimit a)) v v (le-refl v)
 
-pub equal-tables-equal-functions : (net net′ : Net) (w : Leaves) (v v′ : ℕ) → w .count ≤ leafLimit → table net w v ≡ table net′ w v′ → (a : ℕ → Bool)
+pub equal-tables-equal-functions : (net net′ : Net) (w : Leaves) (v v′ : ℕ) → w .count ≤ leafLimit → table net w v ≡ table net′ w v′
+    → (a : ℕ → Bool)
     → localAt net w a v ≡ localAt net′ w a v′
 equal-tables-equal-functions net net′ w v v′ c e a =
     local-by-pattern net w c a v

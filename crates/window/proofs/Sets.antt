@@ -41,7 +41,8 @@ ascends-lower x y (z ∷ zs) h e = ascends-cons x z zs (omega (arith, ascends-he
 pub ascends-above : (x : ℕ) (ys : List ℕ) → ascendsFrom x ys ≡ true → (j : ℕ) → j < length ys → x < getD ys j 0
 ascends-above x [] e j h = absurd (not-suc-le-zero h)
 ascends-above x (y ∷ ys) e zero h = ascends-head x y ys e
-ascends-above x (y ∷ ys) e (suc j) h = omega (arith, ascends-head x y ys e, ascends-above y ys (ascends-tail x y ys e) j (le-of-suc-le-suc h))
+ascends-above x (y ∷ ys) e (suc j) h =
+    omega (arith, ascends-head x y ys e, ascends-above y ys (ascends-tail x y ys e) j (le-of-suc-le-suc h))
 
 pub ascends-places : (x : ℕ) (ys : List ℕ) → ascendsFrom x ys ≡ true → (i j : ℕ) → i < j → j < length ys → getD ys i 0 < getD ys j 0
 ascends-places x [] e i j l h = absurd (not-suc-le-zero h)
@@ -53,7 +54,8 @@ pub ascends-of : (x : ℕ) (ys : List ℕ) → ((j : ℕ) → j < length ys → 
     → ((i j : ℕ) → i < j → j < length ys → getD ys i 0 < getD ys j 0) → ascendsFrom x ys ≡ true
 ascends-of x [] h o = ascends-nil x
 ascends-of x (y ∷ ys) h o =
-    ascends-cons x y ys (h 0 (omega arith)) (ascends-of y ys (λ j l. o 0 (suc j) (omega arith) (omega arith)) (λ i j l k. o (suc i) (suc j) (omega arith) (omega arith)))
+    ascends-cons x y ys (h 0 (omega arith))
+    (ascends-of y ys (λ j l. o 0 (suc j) (omega arith) (omega arith)) (λ i j l k. o (suc i) (suc j) (omega arith) (omega arith)))
 
 -- a higher variable stands at a later place
 pub higher-later : (x : ℕ) (ys : List ℕ) → ascendsFrom x ys ≡ true → (i j : ℕ) → i < length ys → getD ys i 0 < getD ys j 0 → i < j
@@ -85,7 +87,8 @@ unfolding put
 put-is v [] = at-end
 put-is v (x ∷ xs) = go (ltb v x) (eqb v x) refl refl (put-is v xs)
   where
-    go : (b c : Bool) → ltb v x ≡ b → eqb v x ≡ c → Put v xs (put v xs) → Put v (x ∷ xs) (cond b (v ∷ x ∷ xs) (cond c (x ∷ xs) (x ∷ put v xs)))
+    go : (b c : Bool) → ltb v x ≡ b → eqb v x ≡ c → Put v xs (put v xs)
+        → Put v (x ∷ xs) (cond b (v ∷ x ∷ xs) (cond c (x ∷ xs) (x ∷ put v xs)))
     go true c p q r = before (ltb-true v x p)
     go false true p q r = already (eqb-true v x q)
     go false false p q r = after {x = x} (omega (arith, ltb-false v x p, eqb-false v x q)) r

@@ -30,7 +30,8 @@ only xs = record { place = 0; within = omega arith; there = refl; none-shorter =
 module _ (best xs : List ℕ) (xss : List (List ℕ)) (ys : List ℕ) where
   -- the first is not shorter than the second, and gives way to it
   given-way : length xs ≤ length best → Smallest (xs ∷ xss) ys → Smallest (best ∷ xs ∷ xss) ys
-  given-way h s = record { place = suc (s .place); within = omega (arith, s .within); there = s .there; none-shorter = shorter; later-longer = longer }
+  given-way h s =
+      record { place = suc (s .place); within = omega (arith, s .within); there = s .there; none-shorter = shorter; later-longer = longer }
     where
       shorter : (j : ℕ) → j < length (best ∷ xs ∷ xss) → length ys ≤ length (getD (best ∷ xs ∷ xss) j [])
       shorter zero l = omega (arith, s .none-shorter 0 (omega arith))
@@ -58,9 +59,17 @@ module _ (best xs : List ℕ) (xss : List (List ℕ)) (ys : List ℕ) where
 
       go : (k : ℕ) → k < length (best ∷ xss) → getD (best ∷ xss) k [] ≡ ys
           → ((j : ℕ) → k < j → j < length (best ∷ xss) → length ys < length (getD (best ∷ xss) j [])) → Smallest (best ∷ xs ∷ xss) ys
-      go zero w t f = record { place = 0; within = omega arith; there = t; none-shorter = shorter; later-longer = longer 0 0 (λ i _. omega arith) f }
+      go zero w t f =
+          record { place = 0; within = omega arith; there = t; none-shorter = shorter; later-longer = longer 0 0 (λ i _. omega arith) f }
       go (suc k) w t f =
-          record { place = suc (suc k); within = omega arith; there = t; none-shorter = shorter; later-longer = longer (suc k) (suc (suc k)) (λ i q. omega arith) f }
+          record {
+            place = suc (suc k);
+            within = omega arith;
+            there = t;
+            none-shorter = shorter;
+            later-longer = longer (suc k)
+                (suc (suc k)) (λ i q. omega arith) f;
+          }
 
 smallest-from : (best : List ℕ) (xss : List (List ℕ)) → Smallest (best ∷ xss) (smallestFrom best xss)
 unfolding smallestFrom

@@ -36,7 +36,8 @@ module _ (net net′ : Net) (w w′ : Leaves) (v v′ : ℕ) where
       let e = pack-equal patterns (λ i. localAt net w (bit i) v) (λ i. localAt net′ w′ (bit i) v′) in
       (λ p. e .0 (sym (table-is net w v) ∙ p ∙ table-is net′ w′ v′), λ h. table-is net w v ∙ e .1 h ∙ sym (table-is net′ w′ v′))
 
-  pub tables-same : (sameTable (table net w v) (table net′ w′ v′) ≡ true) ↔ ((i : ℕ) → i < patterns → localAt net w (bit i) v ≡ localAt net′ w′ (bit i) v′)
+  pub tables-same : (sameTable (table net w v) (table net′ w′ v′) ≡ true)
+      ↔ ((i : ℕ) → i < patterns → localAt net w (bit i) v ≡ localAt net′ w′ (bit i) v′)
   unfolding sameTable
   tables-same = (λ t. tables-equal .0 (eqb-true _ _ t), λ h. eq-eqb _ _ (tables-equal .1 h))
 

@@ -10,7 +10,22 @@ use lib.Pow.{pow-pos, pow-mono, pow-lt}
 use Rattle.graph.specs.Lists.{_∈_, here, later}
 use Rattle.graph.proofs.Lists.{at-most-or-above}
 use Rattle.window.specs.LeafRule.{insert}
-use Rattle.window.proofs.Sets.{Put, at-end, before, already, after, put-is, Insert, skipped, inserted, insert-is, insert-again, Remove, found, passed}
+use Rattle.window.proofs.Sets.{
+  Put,
+  at-end,
+  before,
+  already,
+  after,
+  put-is,
+  Insert,
+  skipped,
+  inserted,
+  insert-is,
+  insert-again,
+  Remove,
+  found,
+  passed,
+}
 
 unfoldable pub weight : List ℕ → ℕ
 weight [] = 0

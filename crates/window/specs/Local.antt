@@ -18,7 +18,7 @@ pub data Covered (net : Net) (w : Leaves) : ℕ → Type 0 where
   leaf-is : (j : ℕ) → j < length (leafList w) → Covered net w (getD (leafList w) j 0)
   gate-is : {v : ℕ} → IsGate net v → Covered net w (varOf (first net v)) → Covered net w (varOf (second net v)) → Covered net w v
 
--- a kind of value in which only coverage counts: variable 0 is covered, and a gate is if both its fanin variables are
+-- an algebra in which only coverage counts: variable 0 is covered, and a gate is if both its fanin variables are
 unfoldable pub coverage : Algebra Bool
 coverage = record { no = true; conj = _&&_; neg = λ x. x }
 

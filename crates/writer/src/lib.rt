@@ -17,7 +17,8 @@ use text::WrittenText;
 
 // Whether the graph is written into these bytes, or why not.
 fn write_verdict(inputs: usize, gates: &[u32], outputs: &[u32], bytes: &[u8]) -> Verdict
-    ensures { λ r. ⌜ verdictIs r ≡ firstRefusal (writeRefusals (graphOf inputs (now (gates .entry)) (now (outputs .entry))) (now (bytes .entry))) ⌝ }
+    ensures { λ r. ⌜ verdictIs r
+        ≡ firstRefusal (writeRefusals (graphOf inputs (now (gates .entry)) (now (outputs .entry))) (now (bytes .entry))) ⌝ }
 {
     if !well_formed(inputs, gates, outputs) {
         return Verdict::Refused(Refusal::BadGraph);
@@ -30,7 +31,8 @@ fn write_verdict(inputs: usize, gates: &[u32], outputs: &[u32], bytes: &[u8]) ->
 
 // Writes a graph's text: its number of bytes, which are then at the front of the lent list; or why it is refused.
 pub fn write(inputs: usize, gates: &[u32], outputs: &[u32], bytes: &mut [u8]) -> WrittenText
-    ensures { λ r. ⌜ r leaving now (bytes .exit) ≡ writeEffect (graphOf inputs (now (gates .entry)) (now (outputs .entry))) (now (bytes .entry)) ⌝ }
+    ensures { λ r. ⌜ r leaving now (bytes .exit)
+        ≡ writeEffect (graphOf inputs (now (gates .entry)) (now (outputs .entry))) (now (bytes .entry)) ⌝ }
 {
     match write_verdict(inputs, gates, outputs, bytes) {
         Verdict::Refused(refusal) => WrittenText::Refused(refusal),

@@ -71,7 +71,8 @@ fn put_gates(bytes: &mut [u8], at: usize, inputs: u32, gates: &[u32]) -> usize
     requires { ⌜ (inputs ≤ mostInputs) × (length (now gates) ≤ 2 * mostGates) ⌝ }
     requires { ⌜ at + length (lines (gateNumbers (netOf inputs (now gates)) (λ k. false))) ≤ length (now bytes) ⌝ }
     ensures { λ r. ⌜ r ≡ at + length (lines (gateNumbers (netOf inputs (now (gates .entry))) (λ k. false))) ⌝ }
-    ensures { λ _. ⌜ now (bytes .exit) ≡ laid at (lines (gateNumbers (netOf inputs (now (gates .entry))) (λ k. false))) (now (bytes .entry)) ⌝ }
+    ensures { λ _. ⌜ now (bytes .exit)
+        ≡ laid at (lines (gateNumbers (netOf inputs (now (gates .entry))) (λ k. false))) (now (bytes .entry)) ⌝ }
 {
     let count = (gates.len() / 2) as u32;
     let mut next = at;
@@ -93,7 +94,8 @@ pub(crate) fn put_text(inputs: u32, gates: &[u32], outputs: &[u32], bytes: &mut 
     requires { ⌜ wellFormed (graphOf inputs (now gates) (now outputs)) ≡ true ⌝ }
     requires { ⌜ length (textOf (graphOf inputs (now gates) (now outputs))) ≤ length (now bytes) ⌝ }
     ensures { λ r. ⌜ r ≡ length (textOf (graphOf inputs (now (gates .entry)) (now (outputs .entry)))) ⌝ }
-    ensures { λ _. ⌜ now (bytes .exit) ≡ laid 0 (textOf (graphOf inputs (now (gates .entry)) (now (outputs .entry)))) (now (bytes .entry)) ⌝ }
+    ensures { λ _. ⌜ now (bytes .exit)
+        ≡ laid 0 (textOf (graphOf inputs (now (gates .entry)) (now (outputs .entry)))) (now (bytes .entry)) ⌝ }
 {
     let output_count = outputs.len() as u32;
     let gate_count = (gates.len() / 2) as u32;

@@ -1,4 +1,4 @@
--- `graph::inner::gate_ok` meets its contract: each test decides one half of `gateOk`.
+-- `checker::gate_ok` meets its contract: each test decides one half of `gateOk`.
 -- Assumes nothing.
 use mathlib.Core.Path.{sym}
 use borrow.Author.Needs.{needs}

@@ -1,4 +1,4 @@
--- `graph::inner::gates_ok` meets its contract: the gates before k pass.
+-- `checker::gates_ok` meets its contract: the gates before k pass.
 -- Assumes nothing.
 use mathlib.Core.Path.{_≡_, refl, sym, _∙_}
 use mathlib.Core.Bool.{Bool, true}

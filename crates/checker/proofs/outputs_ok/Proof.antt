@@ -1,4 +1,4 @@
--- `graph::inner::outputs_ok` meets its contract: the outputs before k pass.
+-- `checker::outputs_ok` meets its contract: the outputs before k pass.
 -- Assumes nothing.
 use mathlib.Core.Path.{_≡_, sym}
 use mathlib.Core.Bool.{true}

@@ -1,4 +1,4 @@
--- `graph::inner::well_formed` meets its contract: a broken rule decides, and where the others are kept the gates do.
+-- `checker::well_formed` meets its contract: a broken rule decides, and where the others are kept the gates do.
 -- Assumes nothing.
 use mathlib.Core.Path.{sym, _∙_}
 use native.Mathlib.Omega.{arith}
@@ -42,7 +42,8 @@ returns-6 : tie.Need-returns-6
 returns-6 c =
     c .gates-ok .ensures
     ∙ sym
-    (well-by-gates _ _ _ (omega arith) (sym (c .before .before .outputs-ok .ensures) ∙ not-false _ (c .before .if5 .left)) (omega arith) (omega arith) (omega arith))
+    (well-by-gates _ _ _ (omega arith) (sym (c .before .before .outputs-ok .ensures) ∙ not-false _ (c .before .if5 .left)) (omega arith)
+    (omega arith) (omega arith))
 
 pub well-formed-spec : {M : Type 1} → statement M
 well-formed-spec =

@@ -1,4 +1,4 @@
--- `text::from_text::copy_words` meets its contract: after k turns the first k words are written, and the places past them are as they were.
+-- `copier::copy_words` meets its contract: after k turns the first k words are written, and the places past them are as they were.
 -- Assumes nothing.
 use mathlib.Core.Path.{_≡_, refl, ap, _∙_}
 use mathlib.Core.List.{List}
@@ -47,7 +47,8 @@ loop-again c =
     let word = getD (now (a .from)) (l .loop .k) 0 in (
       omega arith,
       simp length-set (omega arith),
-      ap (λ (ws : List ℕ). set ws (l .loop .k) word) (l .loop .inv .2) ∙ written-more (now (a .from)) (now (a .to)) (l .loop .k) (omega arith) (omega arith),
+      ap (λ (ws : List ℕ). set ws (l .loop .k) word) (l .loop .inv .2)
+          ∙ written-more (now (a .from)) (now (a .to)) (l .loop .k) (omega arith) (omega arith),
     )
 
 same-length : tie.Need-same-length Inv-loop μ-loop

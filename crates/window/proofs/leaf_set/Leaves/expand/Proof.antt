@@ -32,7 +32,8 @@ unfolding expand
 returns c =
     let s = c .before .before .before in
     c .with-fanins .ensures
-    ∙ ap (λ (xs : List ℕ). grownOf (withFanins (netOf (s .args .inputs) (now (s .args .gates))) (s .args .leaf .0) xs)) (list-of _ _ (c .before .remove .ensures))
+    ∙ ap (λ (xs : List ℕ). grownOf (withFanins (netOf (s .args .inputs) (now (s .args .gates))) (s .args .leaf .0) xs))
+    (list-of _ _ (c .before .remove .ensures))
 
 pub expand-spec : {M : Type 1} → statement M
 expand-spec = tie.close (tie.spec remove-requires with-fanins-requires returns)

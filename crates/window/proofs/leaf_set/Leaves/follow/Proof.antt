@@ -11,7 +11,21 @@ use Rattle.window.specs.declared.leaf_set.Leaves.{Leaves}
 use Rattle.window.specs.declared.leaf_set.Grown.{Grown}
 use Rattle.window.specs.Leaves.{leafList, leavesOf}
 use Rattle.window.specs.Growing.{Tidy, grownOf}
-use Rattle.window.proofs.Growing.{length-held, Along, along, along-more, next-leaf, tidy-count, list-of, tidy-of, fits, fits-not, follow-more, follow-end, follow-over}
+use Rattle.window.proofs.Growing.{
+  length-held,
+  Along,
+  along,
+  along-more,
+  next-leaf,
+  tidy-count,
+  list-of,
+  tidy-of,
+  fits,
+  fits-not,
+  follow-more,
+  follow-end,
+  follow-over,
+}
 use Rattle.window.proofs.leaf_set.Leaves.follow.Statement.{statement}
 use Rattle.window.proofs.leaf_set.Leaves.follow.Tie as tie
 
@@ -34,7 +48,8 @@ returns : tie.Need-returns Inv-loop μ-loop
 returns c =
     let l = c .before .before .before .before in
     let (a, t, e) = l .loop .inv in
-    c .none .ensures ∙ sym (fits-not _ (follow-over (leafList (l .loop .out)) _ _ (l .loop .k) (omega arith) e (omega (arith, tidy-count t))))
+    c .none .ensures
+    ∙ sym (fits-not _ (follow-over (leafList (l .loop .out)) _ _ (l .loop .k) (omega arith) e (omega (arith, tidy-count t))))
 
 mul-push : tie.Need-mul-push Inv-loop μ-loop
 mul-push c = search needs

@@ -44,7 +44,8 @@ loop-again : tie.Need-loop-again Inv-loop μ-loop
 loop-again c =
     let l = c .before .before .before in
     let (a, e) = l .loop .inv in
-    let other : ¬ (l .before .args .v .0 ≡ getD (leafList (l .before .args .t1)) (l .loop .k) 0) = omega (arith, next-leaf a (omega arith)) in
+    let other : ¬ (l .before .args .v .0 ≡ getD (leafList (l .before .args .t1)) (l .loop .k) 0) =
+    omega (arith, next-leaf a (omega arith)) in
     (along-more a (omega arith), in-more _ _ (l .loop .k) (omega arith) other e)
 
 returns-2 : tie.Need-returns-2 Inv-loop μ-loop
