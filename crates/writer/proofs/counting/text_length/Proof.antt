@@ -14,6 +14,13 @@ use Rattle.writer.proofs.Sizes.{bytesOf, text-count}
 use Rattle.writer.proofs.counting.text_length.Statement.{statement}
 use Rattle.writer.proofs.counting.text_length.Tie as tie
 
+-- the start, from the first number of the first line on, and from its last
+abbrev start : tie.After-decimal-length → tie.Start
+start c = c .before .before .before
+
+abbrev line-start : tie.After-decimal-length4 → tie.Start
+line-start c = start (c .before .before .before)
+
 abbrev graph : tie.Start → Graph
 graph c = graphOf (c .args .inputs) (c .args .gates .now) (c .args .outputs .now)
 
@@ -40,55 +47,55 @@ decimal-length-requires : tie.Need-decimal-length-requires
 decimal-length-requires c κs = search needs
 
 add-first-line : tie.Need-add-first-line
-add-first-line c = omega (arith, few (c .before .before .before))
+add-first-line c = omega (arith, few (start c))
 
 decimal-length-requires-2 : tie.Need-decimal-length-requires-2
 decimal-length-requires-2 c κs = search needs
 
 add-first-line-2 : tie.Need-add-first-line-2
-add-first-line-2 c = omega (arith, few (c .before .before .before .before))
+add-first-line-2 c = omega (arith, few (start (c .before)))
 
 add-first-line-3 : tie.Need-add-first-line-3
-add-first-line-3 c = omega (arith, few (c .before .before .before .before))
+add-first-line-3 c = omega (arith, few (start (c .before)))
 
 decimal-length-requires-3 : tie.Need-decimal-length-requires-3
 decimal-length-requires-3 c κs = search needs
 
 add-first-line-4 : tie.Need-add-first-line-4
-add-first-line-4 c = omega (arith, few (c .before .before .before .before .before))
+add-first-line-4 c = omega (arith, few (start (c .before .before)))
 
 decimal-length-requires-4 : tie.Need-decimal-length-requires-4
 decimal-length-requires-4 c κs = search needs
 
 add-first-line-5 : tie.Need-add-first-line-5
-add-first-line-5 c = omega (arith, few (c .before .before .before .before .before .before))
+add-first-line-5 c = omega (arith, few (line-start c))
 
 add-first-line-6 : tie.Need-add-first-line-6
-add-first-line-6 c = omega (arith, few (c .before .before .before .before .before .before))
+add-first-line-6 c = omega (arith, few (line-start c))
 
 add-variables-length : tie.Need-add-variables-length
-add-variables-length c = omega (arith, limits (c .before .before .before .before .before .before))
+add-variables-length c = omega (arith, limits (line-start c))
 
 variables-length-requires : tie.Need-variables-length-requires
-variables-length-requires c κs = omega (arith, limits (c .before .before .before .before .before .before))
+variables-length-requires c κs = omega (arith, limits (line-start c))
 
 add-result : tie.Need-add-result
-add-result c = omega (arith, few (c .before .before .before .before .before .before .before))
+add-result c = omega (arith, few (line-start (c .before)))
 
 literals-length-requires : tie.Need-literals-length-requires
-literals-length-requires c κs = omega (arith, limits (c .before .before .before .before .before .before .before))
+literals-length-requires c κs = omega (arith, limits (line-start (c .before)))
 
 add-result-2 : tie.Need-add-result-2
-add-result-2 c = omega (arith, few (c .before .before .before .before .before .before .before .before))
+add-result-2 c = omega (arith, few (line-start (c .before .before)))
 
 literals-length-requires-2 : tie.Need-literals-length-requires-2
-literals-length-requires-2 c κs = omega (arith, limits (c .before .before .before .before .before .before .before .before))
+literals-length-requires-2 c κs = omega (arith, limits (line-start (c .before .before)))
 
 add-result-3 : tie.Need-add-result-3
-add-result-3 c = omega (arith, few (c .before .before .before .before .before .before .before .before .before))
+add-result-3 c = omega (arith, few (line-start (c .before .before .before)))
 
 returns : tie.Need-returns
-returns c = omega (arith, count (c .before .before .before .before .before .before .before .before .before))
+returns c = omega (arith, count (line-start (c .before .before .before)))
 
 pub text-length-spec : {M : Type 1} → statement M
 text-length-spec =
