@@ -5,6 +5,7 @@ pub mod LeafPlaces
 pub mod Local
 pub mod Leaves
 pub mod Growing
+pub mod Along
 pub mod Sets
 pub mod Weight
 pub mod Expansions

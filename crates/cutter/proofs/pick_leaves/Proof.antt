@@ -41,7 +41,8 @@ begins c =
     let s = c .before .before .before .before in
     let n = netOf (s .args .inputs) (now (s .args .gates)) in
     fits-leaves (c .before .with-fanins .result) (withFanins n (s .args .root .0) [])
-    (c .before .with-fanins .ensures ∙ ap (λ (xs : List ℕ). grownOf (withFanins n (s .args .root .0) xs)) (list-of _ [] (c .before .before .none .ensures)))
+    (c .before .with-fanins .ensures
+    ∙ ap (λ (xs : List ℕ). grownOf (withFanins n (s .args .root .0) xs)) (list-of _ [] (c .before .before .none .ensures)))
     (omega (arith, fanins-length n (s .args .root .0) []))
 
 going : (l : tie.At-loop Inv-loop μ-loop) → Going (net l) (root l) (l .loop .leaves)
@@ -69,20 +70,23 @@ loop-less c =
     let l = c .before .before .before .before in
     let s = l .before .before .before .before .before in
     let i = c .before .before .before in
-    going-less (net l) (root l) (s .pre) (l .loop .leaves) (going l) (i .smallest .result) (i .smallest .ensures) (not-false _ (c .before .if1 .left))
+    going-less (net l) (root l) (s .pre) (l .loop .leaves) (going l) (i .smallest .result) (i .smallest .ensures)
+    (not-false _ (c .before .if1 .left))
 
 loop-again : tie.Need-loop-again Inv-loop μ-loop
 loop-again c =
     let l = c .before .before .before .before in
     let i = c .before .before .before in
-    λ v p e. going-more (net l) v p (l .loop .leaves) (l .loop .inv v p e) (i .smallest .result) (i .smallest .ensures) (not-false _ (c .before .if1 .left))
+    λ v p e. going-more (net l) v p (l .loop .leaves) (l .loop .inv v p e) (i .smallest .result) (i .smallest .ensures)
+    (not-false _ (c .before .if1 .left))
 
 returns : tie.Need-returns Inv-loop μ-loop
 returns c =
     let l = c .before .before .before in
     let s = l .before .before .before .before .before in
     let i = c .before .before in
-    going-end (net l) (root l) (s .pre) (l .loop .leaves) (going l) (i .smallest .result) (i .smallest .ensures) (not-true _ (c .if1 .taken))
+    going-end (net l) (root l) (s .pre) (l .loop .leaves) (going l) (i .smallest .result) (i .smallest .ensures)
+    (not-true _ (c .if1 .taken))
 
 pub pick-leaves-spec : {M : Type 1} → statement M
 pick-leaves-spec =

@@ -15,7 +15,7 @@ use Rattle.window.specs.Leaves.{leafList}
 use Rattle.window.specs.LeafRule.{smallest}
 use Rattle.window.specs.Growing.{grownFrom}
 use Rattle.cutter.specs.Picking.{tried}
-use Rattle.window.proofs.Growing.{length-held, Along, along, along-more, next-leaf, take-more}
+use Rattle.window.proofs.Along.{length-held, Along, along, along-more, next-leaf, take-more}
 use Rattle.cutter.proofs.Picking.{over, over-all, first-of, tried-more}
 use Rattle.cutter.proofs.smallest.Statement.{statement}
 use Rattle.cutter.proofs.smallest.Tie as tie

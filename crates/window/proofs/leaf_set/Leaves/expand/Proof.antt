@@ -10,7 +10,8 @@ use Rattle.graph.specs.Graph.{netOf}
 use Rattle.window.specs.Leaves.{leafLimit, leafList}
 use Rattle.window.specs.LeafRule.{remove, withFanins, expand}
 use Rattle.window.specs.Growing.{grownOf}
-use Rattle.window.proofs.Growing.{length-held, along, count-of, list-of, removed-length}
+use Rattle.window.proofs.Growing.{count-of, list-of, removed-length}
+use Rattle.window.proofs.Along.{length-held, along}
 use borrow.Author.Needs.{needs}
 use Rattle.window.proofs.leaf_set.Leaves.expand.Statement.{statement}
 use Rattle.window.proofs.leaf_set.Leaves.expand.Tie as tie

@@ -11,21 +11,8 @@ use Rattle.window.specs.declared.leaf_set.Leaves.{Leaves}
 use Rattle.window.specs.declared.leaf_set.Grown.{Grown}
 use Rattle.window.specs.Leaves.{leafList, leavesOf}
 use Rattle.window.specs.Growing.{Tidy, grownOf}
-use Rattle.window.proofs.Growing.{
-  length-held,
-  Along,
-  along,
-  along-more,
-  next-leaf,
-  tidy-count,
-  list-of,
-  tidy-of,
-  fits,
-  fits-not,
-  follow-more,
-  follow-end,
-  follow-over,
-}
+use Rattle.window.proofs.Growing.{tidy-count, list-of, tidy-of, fits, fits-not}
+use Rattle.window.proofs.Along.{length-held, Along, along, along-more, next-leaf, follow-more, follow-end, follow-over}
 use Rattle.window.proofs.leaf_set.Leaves.follow.Statement.{statement}
 use Rattle.window.proofs.leaf_set.Leaves.follow.Tie as tie
 

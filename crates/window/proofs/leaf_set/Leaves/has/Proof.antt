@@ -7,7 +7,7 @@ use borrow.Author.Needs.{needs}
 use lib.ListN.{length, getD, drop}
 use Rattle.graph.specs.Lists.{isIn}
 use Rattle.window.specs.Leaves.{leafList}
-use Rattle.window.proofs.Growing.{length-held, Along, along, along-more, next-leaf, in-more, in-here, in-end}
+use Rattle.window.proofs.Along.{length-held, Along, along, along-more, next-leaf, in-more, in-here, in-end}
 use Rattle.window.proofs.leaf_set.Leaves.has.Statement.{statement}
 use Rattle.window.proofs.leaf_set.Leaves.has.Tie as tie
 

@@ -1,15 +1,16 @@
 -- `window::Leaves::remove` meets its contract: the leaves before k are set down anew.
 -- Assumes nothing.
 use mathlib.Core.Path.{_≡_, refl, ap, _∙_}
-use mathlib.Core.List.{List, _++_}
-use Prim.Native.Nat.{ℕ, _+_, _-_}
+use mathlib.Core.List.{List}
+use Prim.Native.Nat.{ℕ, _-_}
 use native.Mathlib.Omega.{arith}
 use borrow.Author.Needs.{needs}
-use lib.ListN.{length, getD, drop}
+use lib.ListN.{length, getD}
 use Rattle.window.specs.Leaves.{leafList, leavesOf}
 use Rattle.window.specs.LeafRule.{remove}
-use Rattle.window.specs.Growing.{grownOf}
-use Rattle.window.proofs.Growing.{length-held, Rebuilt, along, along-more, next-leaf, fits-leaves, removed-length, remove-more, remove-here, remove-end, front-list, front-tidy, front-room, front-more}
+use Rattle.window.proofs.Growing.{fits-leaves, removed-length}
+use Rattle.window.proofs.Along.{length-held, remove-more, remove-here, remove-end}
+use Rattle.window.proofs.Along.{Rebuilt, along, along-more, next-leaf, front-list, front-tidy, front-room, front-more}
 use Rattle.window.proofs.leaf_set.Leaves.remove.Statement.{statement}
 use Rattle.window.proofs.leaf_set.Leaves.remove.Tie as tie
 
@@ -18,6 +19,13 @@ Inv-loop v self n out₀ k₀ out k = Rebuilt (remove (v .0)) self n out k
 
 abbrev μ-loop : tie.MeasureT-loop
 μ-loop v self n out₀ k₀ out k = n - k
+
+-- the turn, from its test
+abbrev turn : tie.After-struct-known2 Inv-loop μ-loop → tie.At-loop Inv-loop μ-loop
+turn c = c .before .before .before .before
+
+abbrev old : tie.At-loop Inv-loop μ-loop → ℕ
+old l = l .before .before .args .v .0
 
 abbrev leaves : tie.At-loop Inv-loop μ-loop → List ℕ
 leaves l = leafList (l .before .before .args .t1)
@@ -42,25 +50,21 @@ add-follow c = search needs
 
 follow-requires : tie.Need-follow-requires Inv-loop μ-loop
 follow-requires c κs =
-    let l = c .before .before .before .before .before in
+    let l = turn (c .before) in
     let (a, e, _) = l .loop .inv in
     (front-tidy a e, l .before .before .pre, omega arith)
 
 returns : tie.Need-returns Inv-loop μ-loop
 returns c =
-    let l = c .before .before .before .before .before .before .before in
-    let k = l .loop .k in
-    let v = l .before .before .args .v .0 in
+    let l = turn (c .before .before .before) in
     let (a, e, p) = l .loop .inv in
-    let same : v ≡ getD (leaves l) k 0 = omega (arith, next-leaf a (omega arith)) in
-    fits-leaves (c .before .follow .result) (remove v (leaves l))
-    (c .before .follow .ensures
-    ∙ ap (λ (ys : List ℕ). grownOf (ys ++ drop (k + 1) (leaves l))) (front-list a e)
-    ∙ ap grownOf (remove-here v (leaves l) k (omega arith) same p))
-    (omega (arith, removed-length v (leaves l)))
+    let same : old l ≡ getD (leaves l) (l .loop .k) 0 = omega (arith, next-leaf a (omega arith)) in
+    let removed = remove-here (old l) (leaves l) _ (omega arith) same p in
+    fits-leaves (c .before .follow .result) _ (c .before .follow .ensures ∙ rw (front-list a e, removed))
+    (omega (arith, removed-length (old l) (leaves l)))
 
 push-requires : tie.Need-push-requires Inv-loop μ-loop
-push-requires c κs = let (a, e, _) = c .before .before .before .before .before .loop .inv in front-room a e (omega arith)
+push-requires c κs = let (a, e, _) = turn (c .before) .loop .inv in front-room a e (omega arith)
 
 add-k : tie.Need-add-k Inv-loop μ-loop
 add-k c = search needs
@@ -70,11 +74,12 @@ loop-less c = search needs
 
 loop-again : tie.Need-loop-again Inv-loop μ-loop
 loop-again c =
-    let l = c .before .before .before .before .before .before in
+    let l = turn (c .before .before) in
     let (a, e, p) = l .loop .inv in
     let x = next-leaf a (omega arith) in
-    let other : ¬ (l .before .before .args .v .0 ≡ getD (leaves l) (l .loop .k) 0) = omega arith in
-    (along-more a (omega arith), front-more a e _ (c .push .ensures) (omega arith) x, remove-more _ (leaves l) (l .loop .k) (omega arith) other p)
+    let other : ¬ (old l ≡ getD (leaves l) (l .loop .k) 0) = omega arith in
+    let set-down = front-more a e _ (c .push .ensures) (omega arith) x in
+    (along-more a (omega arith), set-down, remove-more _ (leaves l) _ (omega arith) other p)
 
 returns-2 : tie.Need-returns-2 Inv-loop μ-loop
 returns-2 c =

@@ -2,36 +2,44 @@
 -- Assumes nothing.
 use mathlib.Core.Path.{_≡_, sym, ap, _∙_}
 use mathlib.Core.Bool.{true}
-use mathlib.Core.List.{List}
 use Prim.Native.Nat.{ℕ, _+_, _-_}
 use native.Mathlib.Omega.{arith}
+use borrow.Author.Needs.{needs}
 use borrow.Author.Tests.{not-true, not-false}
 use denote.Ref.{now}
 use Rattle.graph.specs.Literal.{varOf}
 use Rattle.graph.specs.Graph.{Net, netOf, first, second}
 use Rattle.window.specs.Leaves.{leafList}
-use Rattle.window.specs.LeafRule.{insert}
-use Rattle.window.specs.Growing.{grownOf}
-use Rattle.window.proofs.Growing.{count-of, list-of, grown-few, grown-leaves, grown-longer, first-word, second-word, fanins-are, fanins-longer}
-use borrow.Author.Needs.{needs}
+use Rattle.window.proofs.Growing.{count-of, list-of, grown-few, grown-leaves, grown-longer}
+use Rattle.window.proofs.Growing.{first-word, second-word, fanins-are, fanins-longer}
 use Rattle.window.proofs.leaf_set.Leaves.with_fanins.Statement.{statement}
 use Rattle.window.proofs.leaf_set.Leaves.with_fanins.Tie as tie
 
-abbrev start : tie.After-insert → tie.Start
-start i = i .before .before .before .before .before .before .before
+-- the places before the second fanin variable is put in, and what is known there
+module _ (i : tie.After-insert) where
+  abbrev at-first : tie.After-var
+  at-first = i .before .before .before
 
-abbrev net : tie.After-insert → Net
-net i = netOf (start i .args .inputs) (now (start i .args .gates))
+  abbrev at-gate : tie.After-at
+  at-gate = at-first .before .before
 
-is-first : (i : tie.After-insert) → varOf (first (net i) (start i .args .v .0)) ≡ i .before .before .before .var .result .0
-is-first i =
-    first-word (start i .args .inputs) (now (start i .args .gates)) (start i .args .v .0) _ (ap (λ (x : ℕ). x - (start i .args .inputs + 1)) (i .before .before .before .before .before .at .ensures))
-    ∙ sym (i .before .before .before .var .ensures)
+  abbrev start : tie.Start
+  start = at-gate .before .before
 
-is-second : (i : tie.After-insert) → varOf (second (net i) (start i .args .v .0)) ≡ i .before .var2 .result .0
-is-second i =
-    second-word (start i .args .inputs) (now (start i .args .gates)) (start i .args .v .0) _ (ap (λ (x : ℕ). x - (start i .args .inputs + 1)) (i .before .before .before .before .before .at .ensures))
-    ∙ sym (i .before .var2 .ensures)
+  abbrev net : Net
+  net = netOf (start .args .inputs) (now (start .args .gates))
+
+  abbrev gate : ℕ
+  gate = start .args .v .0
+
+  place : at-gate .at .result - (start .args .inputs + 1) ≡ gate - (start .args .inputs + 1)
+  place = ap (λ (x : ℕ). x - (start .args .inputs + 1)) (at-gate .at .ensures)
+
+  is-first : varOf (first net gate) ≡ at-first .var .result .0
+  is-first = first-word _ _ _ _ place ∙ sym (at-first .var .ensures)
+
+  is-second : varOf (second net gate) ≡ i .before .var2 .result .0
+  is-second = second-word _ _ _ _ place ∙ sym (i .before .var2 .ensures)
 
 at-requires : tie.Need-at-requires
 at-requires c κs = search needs
@@ -72,23 +80,22 @@ insert-requires c κs = search needs
 returns : tie.Need-returns
 returns c =
     let i = c .before .before in
-    let s = start i in
-    grown-longer (i .insert .result) _ (i .insert .ensures) (not-true _ (c .if1 .taken)) _ (fanins-longer (net i) (s .args .v .0) _ _ (leafList (s .args .self)) (is-first i) (is-second i))
+    let longer = fanins-longer (net i) (gate i) _ _ (leafList (start i .args .self)) (is-first i) (is-second i) in
+    grown-longer (i .insert .result) _ (i .insert .ensures) (not-true _ (c .if1 .taken)) _ longer
 
 insert-requires-2 : tie.Need-insert-requires-2
 insert-requires-2 c κs =
-    let i = c .before .before .before in
-    let t : i .insert .result .fits ≡ true = not-false _ (c .before .if1 .left) in
-    omega (arith, count-of _ _ (grown-leaves (i .insert .result) _ (i .insert .ensures) t), grown-few (i .insert .result) _ (i .insert .ensures) t)
+    let one = c .before .before .before .insert in
+    let t : one .result .fits ≡ true = not-false _ (c .before .if1 .left) in
+    omega (arith, count-of _ _ (grown-leaves (one .result) _ (one .ensures) t), grown-few (one .result) _ (one .ensures) t)
 
 returns-2 : tie.Need-returns-2
 returns-2 c =
     let i = c .before .before .before .before in
-    let s = start i in
     let t = not-false _ (c .before .before .if1 .left) in
-    c .insert2 .ensures
-    ∙ ap (λ (xs : List ℕ). grownOf (insert (i .before .before .before .var .result .0) xs)) (list-of _ _ (grown-leaves (i .insert .result) _ (i .insert .ensures) t))
-    ∙ ap grownOf (fanins-are (net i) (s .args .v .0) _ _ (leafList (s .args .self)) (is-first i) (is-second i))
+    let with-second = list-of _ _ (grown-leaves (i .insert .result) _ (i .insert .ensures) t) in
+    let with-both = fanins-are (net i) (gate i) _ _ (leafList (start i .args .self)) (is-first i) (is-second i) in
+    c .insert2 .ensures ∙ rw (with-second, with-both)
 
 pub with-fanins-spec : {M : Type 1} → statement M
 with-fanins-spec =
