@@ -1,7 +1,7 @@
 -- `cutter::pick_leaves` meets its contract: where the rule comes to from these leaves, it comes to from the root's fanin variables.
 -- The measure is the sum of 2 ^ v over the leaves v, a number of the logic: no machine word holds it. Assumes nothing.
-use mathlib.Core.Path.{_≡_, ap, _∙_}
-use mathlib.Core.List.{List, []}
+use mathlib.Core.Path.{_≡_, _∙_}
+use mathlib.Core.List.{[]}
 use Prim.Native.Nat.{ℕ}
 use native.Mathlib.Omega.{arith}
 use borrow.Author.Needs.{needs}
@@ -10,7 +10,6 @@ use denote.Ref.{now}
 use Rattle.graph.specs.Graph.{Net, netOf}
 use Rattle.window.specs.Leaves.{leafList, leavesOf}
 use Rattle.window.specs.LeafRule.{withFanins}
-use Rattle.window.specs.Growing.{grownOf}
 use Rattle.cutter.specs.Picking.{Pickable}
 use Rattle.window.proofs.Weight.{weight}
 use Rattle.window.proofs.Expansions.{fanins-length}
@@ -28,25 +27,25 @@ Inv-loop inputs gates leaves₀ leaves =
 abbrev μ-loop : tie.MeasureT-loop
 μ-loop inputs gates leaves₀ leaves = weight (leafList leaves)
 
-abbrev root : tie.At-loop Inv-loop μ-loop → ℕ
-root l = l .before .before .before .before .before .args .root .0
+-- in a turn: the root, its net, and that the rule comes to these leaves
+module _ (l : tie.At-loop Inv-loop μ-loop) where
+  abbrev start : tie.Start Inv-loop μ-loop
+  start = l .before .before .before .before .before
 
-abbrev net : tie.At-loop Inv-loop μ-loop → Net
-net l = let s = l .before .before .before .before .before in netOf (s .args .inputs) (now (s .args .gates))
+  abbrev net : Net
+  net = netOf (start .args .inputs) (now (start .args .gates))
 
-begins : (c : tie.After-leaves Inv-loop μ-loop) →
-    let s = c .before .before .before .before in
-    c .before .with-fanins .result .leaves ≡ leavesOf (withFanins (netOf (s .args .inputs) (now (s .args .gates))) (s .args .root .0) [])
-begins c =
-    let s = c .before .before .before .before in
-    let n = netOf (s .args .inputs) (now (s .args .gates)) in
-    fits-leaves (c .before .with-fanins .result) (withFanins n (s .args .root .0) [])
-    (c .before .with-fanins .ensures
-    ∙ ap (λ (xs : List ℕ). grownOf (withFanins n (s .args .root .0) xs)) (list-of _ [] (c .before .before .none .ensures)))
-    (omega (arith, fanins-length n (s .args .root .0) []))
+  abbrev root : ℕ
+  root = start .args .root .0
 
-going : (l : tie.At-loop Inv-loop μ-loop) → Going (net l) (root l) (l .loop .leaves)
-going l = l .loop .inv (root l) (l .before .before .before .before .before .pre) (begins (l .before))
+  begins : l .before .before .with-fanins .result .leaves ≡ leavesOf (withFanins net root [])
+  begins =
+      let f = l .before .before in
+      fits-leaves (f .with-fanins .result) _ (f .with-fanins .ensures ∙ rw (list-of _ [] (f .before .none .ensures)))
+      (omega (arith, fanins-length net root []))
+
+  going : Going net root (l .loop .leaves)
+  going = l .loop .inv root (start .pre) begins
 
 none-requires : tie.Need-none-requires Inv-loop μ-loop
 none-requires c κs = search needs
@@ -61,32 +60,25 @@ loop-holds c = λ v p e. going-start _ v p _ e
 
 smallest-requires : tie.Need-smallest-requires Inv-loop μ-loop
 smallest-requires c κs =
-    let s = c .before .before .before .before .before in
-    let g = going c in
-    (g .tidy .few, s .pre .inputs-few, going-within (net c) (root c) (s .pre) (c .loop .leaves) g)
+    let ok = start c .pre in
+    (going c .tidy .few, ok .inputs-few, going-within _ _ ok _ (going c))
 
 loop-less : tie.Need-loop-less Inv-loop μ-loop
 loop-less c =
-    let l = c .before .before .before .before in
-    let s = l .before .before .before .before .before in
     let i = c .before .before .before in
-    going-less (net l) (root l) (s .pre) (l .loop .leaves) (going l) (i .smallest .result) (i .smallest .ensures)
-    (not-false _ (c .before .if1 .left))
+    let l = i .before in
+    going-less _ _ (start l .pre) _ (going l) _ (i .smallest .ensures) (not-false _ (c .before .if1 .left))
 
 loop-again : tie.Need-loop-again Inv-loop μ-loop
 loop-again c =
-    let l = c .before .before .before .before in
     let i = c .before .before .before in
-    λ v p e. going-more (net l) v p (l .loop .leaves) (l .loop .inv v p e) (i .smallest .result) (i .smallest .ensures)
-    (not-false _ (c .before .if1 .left))
+    λ v p e. going-more _ v p _ (i .before .loop .inv v p e) _ (i .smallest .ensures) (not-false _ (c .before .if1 .left))
 
 returns : tie.Need-returns Inv-loop μ-loop
 returns c =
-    let l = c .before .before .before in
-    let s = l .before .before .before .before .before in
     let i = c .before .before in
-    going-end (net l) (root l) (s .pre) (l .loop .leaves) (going l) (i .smallest .result) (i .smallest .ensures)
-    (not-true _ (c .if1 .taken))
+    let l = i .before in
+    going-end _ _ (start l .pre) _ (going l) _ (i .smallest .ensures) (not-true _ (c .if1 .taken))
 
 pub pick-leaves-spec : {M : Type 1} → statement M
 pick-leaves-spec =
