@@ -14,7 +14,20 @@ use Rattle.graph.proofs.Gather.{gather-same, length-gather, getD-gather}
 use Rattle.graph.proofs.Gathered.{singles, length-singles, getD-singles, singles-are, flatMap-singles}
 use Rattle.text.specs.declared.header.Header.{Header}
 use Rattle.text.specs.States.{counts, inputNumbers, outputNumbers, gateLine, gateNumbers, sectionsOf}
-use Rattle.text.specs.Reading.{freeOf, inputNeeded, outputNeeded, gateNeeded, inputsNeeded, outputsNeeded, gatesNeeded, sections, linesNeeded, gateWords, graphIn, graphRead}
+use Rattle.text.specs.Reading.{
+  freeOf,
+  inputNeeded,
+  outputNeeded,
+  gateNeeded,
+  inputsNeeded,
+  outputsNeeded,
+  gatesNeeded,
+  sections,
+  linesNeeded,
+  gateWords,
+  graphIn,
+  graphRead,
+}
 use Rattle.text.proofs.Fits.{Kept, Fits, section-count, section-each, AllFit, no-section, section, partsOf, parts-fit, parts-joined}
 use Rattle.text.proofs.States.{linesOf, words-at, gate-sides}
 use Rattle.text.proofs.OneLine.{input-kept, output-kept, output-is, gate-is}

@@ -12,7 +12,19 @@ use Rattle.graph.proofs.Members.{at-place}
 use Rattle.graph.proofs.Each.{Each, each-none, each-one, each-join, each-gather}
 use Rattle.text.specs.declared.header.Header.{Header}
 use Rattle.text.specs.States.{counts}
-use Rattle.text.specs.Reading.{headerOf, freeOf, Needed, inputNeeded, outputNeeded, gateNeeded, inputsNeeded, outputsNeeded, gatesNeeded, sections, linesNeeded}
+use Rattle.text.specs.Reading.{
+  headerOf,
+  freeOf,
+  Needed,
+  inputNeeded,
+  outputNeeded,
+  gateNeeded,
+  inputsNeeded,
+  outputsNeeded,
+  gatesNeeded,
+  sections,
+  linesNeeded,
+}
 use Rattle.text.proofs.Fits.{Kept, noNeed, Fits}
 use Rattle.text.proofs.States.{linesOf, lines-fit, gate-sides}
 use Rattle.text.proofs.OneLine.{input-kept, output-kept, output-is, gate-is}

@@ -1,4 +1,4 @@
--- `exports::nenquilco_read` meets its contract: what `text::read` answers, told in numbers.
+-- `exports::nenquilco_read` meets its contract: what `reader::read` answers, told in numbers.
 -- Assumes nothing.
 use mathlib.Core.Path.{_∙_}
 use Rattle.graph.specs.Lent.{written}
@@ -7,6 +7,10 @@ use Rattle.exports.proofs.Exported.{answer-told}
 use borrow.Author.Needs.{needs}
 use Rattle.exports.proofs.nenquilco_read.Statement.{statement}
 use Rattle.exports.proofs.nenquilco_read.Tie as tie
+
+-- where `read` has answered, from where its lists are known again
+abbrev answered : tie.After-slice-known4 → tie.After-read
+answered c = c .before .before .before .before
 
 read-requires : tie.Need-read-requires
 read-requires c κs = search needs
@@ -29,9 +33,9 @@ same-length-2 c = search needs
 returns : tie.Need-returns
 unfolding readOutcome written
 returns c =
-    let p = c .before .before .before .before .before .before .before .before in
-    let q = c .before .before .refusal .given .1 in
-    answer-told readOutcome _ _ _ (p .read .ensures) _ (c .number .ensures ∙ rw q) _ _ (rw q)
+    let r = c .before .before in
+    let q = r .refusal .given .1 in
+    answer-told readOutcome _ _ _ (answered (r .before .before) .read .ensures) _ (c .number .ensures ∙ rw q) _ _ (rw q)
 
 same-length-3 : tie.Need-same-length-3
 same-length-3 c = search needs
@@ -42,9 +46,9 @@ same-length-4 c = search needs
 returns-2 : tie.Need-returns-2
 unfolding readOutcome written
 returns-2 c =
-    let p = c .before .before .before .before .before .before .before in
-    let q = c .before .inputs .given .1 in
-    answer-told readOutcome _ _ _ (p .read .ensures) _ (rw q) _ _ (rw q)
+    let r = c .before in
+    let q = r .inputs .given .1 in
+    answer-told readOutcome _ _ _ (answered (r .before .before) .read .ensures) _ (rw q) _ _ (rw q)
 
 pub nenquilco-read-spec : {M : Type 1} → statement M
 nenquilco-read-spec =

@@ -1,4 +1,4 @@
--- `exports::nenquilco_write` meets its contract: what `text::write` answers, told in numbers.
+-- `exports::nenquilco_write` meets its contract: what `writer::write` answers, told in numbers.
 -- Assumes nothing.
 use mathlib.Core.Path.{_∙_}
 use Rattle.graph.specs.Lent.{written}
@@ -26,9 +26,9 @@ same-length c = search needs
 returns : tie.Need-returns
 unfolding writtenOutcome written
 returns c =
-    let p = c .before .before .before .before .before .before in
-    let q = c .before .before .refusal .given .1 in
-    answer-told writtenOutcome _ _ _ (p .write .ensures) _ (c .number .ensures ∙ rw q) _ _ (rw q)
+    let r = c .before .before in
+    let q = r .refusal .given .1 in
+    answer-told writtenOutcome _ _ _ (r .before .before .before .before .write .ensures) _ (c .number .ensures ∙ rw q) _ _ (rw q)
 
 same-length-2 : tie.Need-same-length-2
 same-length-2 c = search needs
@@ -36,9 +36,9 @@ same-length-2 c = search needs
 returns-2 : tie.Need-returns-2
 unfolding writtenOutcome written
 returns-2 c =
-    let p = c .before .before .before .before .before in
-    let q = c .before .length .given .1 in
-    answer-told writtenOutcome _ _ _ (p .write .ensures) _ (rw q) _ _ (rw q)
+    let r = c .before in
+    let q = r .length .given .1 in
+    answer-told writtenOutcome _ _ _ (r .before .before .before .before .write .ensures) _ (rw q) _ _ (rw q)
 
 pub nenquilco-write-spec : {M : Type 1} → statement M
 nenquilco-write-spec =

@@ -1,4 +1,4 @@
--- `promises::read_twice` meets its contract: what meets the contract of `text::read` is one result alone.
+-- `promises::read_twice` meets its contract: what meets the contract of `reader::read` is one result alone.
 -- Assumes nothing.
 use mathlib.Core.Path.{ap, _∙_}
 use borrow.Author.Needs.{needs}
@@ -6,6 +6,10 @@ use Rattle.text.specs.Calls.{readEffect}
 use Rattle.promises.proofs.Contracts.{read-has-one-result}
 use Rattle.promises.proofs.read_twice.Statement.{statement}
 use Rattle.promises.proofs.read_twice.Tie as tie
+
+-- the first call, from the second on
+abbrev first-call : tie.After-read2 → tie.After-read
+first-call c = c .before .before .before .before .before .before .before
 
 read-requires : tie.Need-read-requires
 read-requires c κs = search needs
@@ -27,8 +31,9 @@ same-length-4 c = search needs
 
 returns : tie.Need-returns
 returns c =
-    let first-read = c .before .before .before .before .before .before .before .before .before .before .before .read .ensures in
-    let second-read = c .before .before .before .before .read2 .ensures in
+    let second = c .before .before .before .before in
+    let first-read = first-call second .read .ensures in
+    let second-read = second .read2 .ensures in
     (first-read, (second-read, λ same. read-has-one-result _ _ _ _ _ _ (first-read ∙ ap (readEffect _) same) second-read))
 
 pub read-twice-spec : {M : Type 1} → statement M

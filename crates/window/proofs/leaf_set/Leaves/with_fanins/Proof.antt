@@ -15,13 +15,10 @@ use Rattle.window.proofs.Growing.{first-word, second-word, fanins-are, 
 use Rattle.window.proofs.leaf_set.Leaves.with_fanins.Statement.{statement}
 use Rattle.window.proofs.leaf_set.Leaves.with_fanins.Tie as tie
 
--- the places before the second fanin variable is put in, and what is known there
+-- the gate, and that the two variables read are those of its fanins
 module _ (i : tie.After-insert) where
-  abbrev at-first : tie.After-var
-  at-first = i .before .before .before
-
   abbrev at-gate : tie.After-at
-  at-gate = at-first .before .before
+  at-gate = i .before .before .before .before .before
 
   abbrev start : tie.Start
   start = at-gate .before .before
@@ -35,8 +32,8 @@ module _ (i : tie.After-insert) where
   place : at-gate .at .result - (start .args .inputs + 1) ≡ gate - (start .args .inputs + 1)
   place = ap (λ (x : ℕ). x - (start .args .inputs + 1)) (at-gate .at .ensures)
 
-  is-first : varOf (first net gate) ≡ at-first .var .result .0
-  is-first = first-word _ _ _ _ place ∙ sym (at-first .var .ensures)
+  is-first : varOf (first net gate) ≡ i .before .before .before .var .result .0
+  is-first = first-word _ _ _ _ place ∙ sym (i .before .before .before .var .ensures)
 
   is-second : varOf (second net gate) ≡ i .before .var2 .result .0
   is-second = second-word _ _ _ _ place ∙ sym (i .before .var2 .ensures)
