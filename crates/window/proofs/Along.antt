@@ -136,6 +136,10 @@ Rebuilt F w n out k =
     × (out ≡ leavesOf (take k (leafList w)))
     × (F (leafList w) ≡ take k (leafList w) ++ F (drop k (leafList w)))
 
+pub rebuilt-none : (F : List ℕ → List ℕ) (w : Leaves) {out : Leaves} → length (w .places) ≡ 6 → w .count ≤ leafLimit → out ≡ leavesOf []
+    → Rebuilt F w (w .count) out 0
+rebuilt-none F w six few e = (along w 0 six few (omega arith), e, refl)
+
 module _ {w : Leaves} {n k : ℕ} (a : Along w n k) {out : Leaves} (e : out ≡ leavesOf (take k (leafList w))) where
   front-long : length (take k (leafList w)) ≡ k
   front-long = length-take-le k (leafList w) (omega (arith, a .long, a .within))

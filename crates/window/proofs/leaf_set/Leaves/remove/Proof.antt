@@ -1,6 +1,6 @@
 -- `window::Leaves::remove` meets its contract: the leaves before k are set down anew.
 -- Assumes nothing.
-use mathlib.Core.Path.{_≡_, refl, ap, _∙_}
+use mathlib.Core.Path.{_≡_, ap, _∙_}
 use mathlib.Core.List.{List}
 use Prim.Native.Nat.{ℕ, _-_}
 use native.Mathlib.Omega.{arith}
@@ -10,7 +10,7 @@ use Rattle.window.specs.Leaves.{leafList, leavesOf}
 use Rattle.window.specs.LeafRule.{remove}
 use Rattle.window.proofs.Growing.{fits-leaves, removed-length}
 use Rattle.window.proofs.Along.{length-held, remove-more, remove-here, remove-end}
-use Rattle.window.proofs.Along.{Rebuilt, along, along-more, next-leaf, front-list, front-tidy, front-room, front-more}
+use Rattle.window.proofs.Along.{Rebuilt, rebuilt-none, along-more, next-leaf, front-list, front-tidy, front-room, front-more}
 use Rattle.window.proofs.leaf_set.Leaves.remove.Statement.{statement}
 use Rattle.window.proofs.leaf_set.Leaves.remove.Tie as tie
 
@@ -37,7 +37,7 @@ loop-holds : tie.Need-loop-holds Inv-loop μ-loop
 loop-holds c =
     let s = c .before in
     let six : length (s .args .t1 .places) ≡ 6 = search (needs, length-held) in
-    (along (s .args .t1) 0 six (s .pre) (omega arith), c .none .ensures, refl)
+    rebuilt-none (remove (s .args .v .0)) (s .args .t1) six (s .pre) (c .none .ensures)
 
 mul-x : tie.Need-mul-x Inv-loop μ-loop
 mul-x c = search needs
