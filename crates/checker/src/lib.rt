@@ -1,9 +1,11 @@
 // What every call on a lent graph asks first.
 ghost use mathlib.Core.Path.{_≡_};
+ghost use mathlib.Core.Bool.{_||_};
 ghost use Prim.Native.Nat.{suc, _+_, _*_, _/_, _<_, _≤_};
 ghost use lib.Dec.{leb};
 ghost use lib.ListN.{length};
 ghost use Rattle.graph.specs.Lists.{allBelow, all};
+ghost use Rattle.graph.specs.Lent.{short};
 ghost use Rattle.graph.specs.Graph.{netOf, graphOf, mostInputs, mostGates, gateOk, wellFormed};
 use graph::MOST_GATES;
 use graph::MOST_INPUTS;
@@ -78,4 +80,14 @@ pub fn well_formed(inputs: usize, gates: &[u32], outputs: &[u32]) -> bool
         return false;
     }
     gates_ok(inputs, gates)
+}
+
+// Lists lent for a graph have fewer places than so many words for its gates and so many results.
+pub fn no_room(words: usize, results: usize, gates: &[u32], outputs: &[u32]) -> bool
+    ensures { λ r. ⌜ r ≡ short words (now (gates .entry)) || short results (now (outputs .entry)) ⌝ }
+{
+    if gates.len() < words {
+        return true;
+    }
+    outputs.len() < results
 }

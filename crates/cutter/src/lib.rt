@@ -11,7 +11,7 @@ use window::Grown;
 use window::Leaves;
 
 // The smaller of two sets that fit, the second on ties.
-fn smaller(best: Grown, next: Grown) -> Grown
+fn better(best: Grown, next: Grown) -> Grown
     ensures { λ r. ⌜ r ≡ better best next ⌝ }
 {
     if !next.fits {
@@ -35,7 +35,7 @@ fn try_leaf(leaves: Leaves, inputs: usize, gates: &[u32], v: Var, best: Grown) -
         return best;
     }
     let next = leaves.expand(inputs, gates, v);
-    smaller(best, next)
+    better(best, next)
 }
 
 // The smallest expansion of at most six leaves, the highest expanded variable's on ties, if there is one.

@@ -22,8 +22,7 @@ writes inputs gates outputs bytes = writeEffect (graphOf inputs gates outputs) b
 abbrev pub writtenNumbers : ℕ → List ℕ → List ℕ → List ℕ → Outcome
 writtenNumbers inputs gates outputs bytes = writtenOutcome ((writes inputs gates outputs bytes) .answer)
 
--- what a call in numbers comes to: its number, the numbers behind its references, which a refusal leaves as they were, and what it
--- leaves in lent memory
+-- what a call in numbers comes to: its number, the numbers behind its references, which a refusal does not touch, and its lent lists
 pub record Told {L : Type 0} (outcome : Outcome) (lent : L) (before : List ℕ) (r : ℕ) (after : List ℕ) (left : L) : Type 0 where
   pub number : r ≡ outcome .number
   pub values : after ≡ written (outcome .values) before

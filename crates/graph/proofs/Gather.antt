@@ -68,7 +68,8 @@ module _ {A : Type 0} where
         subst P e (p n (j - c * n) (le-refl (suc n)) (omega arith)))
         (at-most-or-above (suc j) (c * n))
 
-    pub gather-is : (xs : List A) (n : ℕ) (d : A) → length xs ≡ c * n → ((k i : ℕ) → k < n → i < c → getD xs (c * k + i) d ≡ getD (f k) i d)
+    pub gather-is : (xs : List A) (n : ℕ) (d : A) → length xs ≡ c * n
+        → ((k i : ℕ) → k < n → i < c → getD xs (c * k + i) d ≡ getD (f k) i d)
         → xs ≡ gather f n
     gather-is xs n d q h =
         ext-getD d xs (gather f n) (q ∙ sym (length-gather n)) λ j l.

@@ -14,7 +14,7 @@ use Rattle.graph.specs.Graph.{largerFirst, Graph}
 use mathlib.Core.Bool.{true, false}
 use mathlib.Core.Logic.{_↔_, _⊎_, inl, inr, ⊎-elim}
 use borrow.Author.Tests.{le-ltb}
-use Rattle.graph.proofs.Tests.{or-iff, ltb-iff}
+use Rattle.graph.proofs.Tests.{test-off, or-iff, ltb-iff}
 
 -- ---- room in lent lists
 
@@ -36,6 +36,15 @@ pub room-for : (g : Graph) (b : Buffers) → length (g .net .gates) ≤ length (
     → noRoomFor g b ≡ false
 unfolding noRoomFor short
 room-for g b gates-fit outputs-fit = rw (le-ltb _ _ gates-fit, le-ltb _ _ outputs-fit)
+
+pub room-places : (g : Graph) (b : Buffers) → noRoomFor g b ≡ false
+    → (length (g .net .gates) ≤ length (b .gates)) × (length (g .outputs) ≤ length (b .outputs))
+room-places g b e =
+    let enough = test-off _ (no-room-iff g b) e in
+    (not-below _ _ (λ h. enough (few-gate-words h)), not-below _ _ (λ h. enough (few-output-words h)))
+  where
+    not-below : (m n : ℕ) → ¬ (m < n) → n ≤ m
+    not-below m n f = omega arith
 
 -- ---- laid is stored element by element
 
@@ -79,7 +88,8 @@ put-length : (at : ℕ) (xs before : List ℕ) {next : ℕ} {after : List ℕ} �
 put-length at xs before room put = ap length (put .1 ∙ laid-sets at xs before room) ∙ length-sets before at xs
 
 -- more behind what is laid, where there is room
-pub put-then : (at : ℕ) (xs ys before : List ℕ) {next : ℕ} {after : List ℕ} → next + length ys ≤ length before → Put at xs before next after
+pub put-then : (at : ℕ) (xs ys before : List ℕ) {next : ℕ} {after : List ℕ} → next + length ys ≤ length before
+    → Put at xs before next after
     → {end : ℕ} {final : List ℕ} → Put next ys after end final → Put at (xs ++ ys) before end final
 put-then at xs ys before {next} {after} room put p =
     let kept = put-length at xs before (omega arith) put in (

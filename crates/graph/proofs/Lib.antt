@@ -14,4 +14,4 @@ pub mod Refuse
 pub mod Tests
 pub mod Lent
 pub mod Evaluate
-pub mod Gathered
+pub mod Singles

@@ -84,7 +84,8 @@ module _ (net : Net) (v : ℕ) where
   fanins-off ms m = rw m
 
   pub fanins-length : (ms : List Bool) → length (markFanins net v ms) ≡ length ms
-  fanins-length ms = ⊎-elim (λ m. rw (fanins-on ms m) (each-length fanins ms)) (λ m. rw (fanins-off ms m)) (true-or-false (getD ms v false))
+  fanins-length ms =
+      ⊎-elim (λ m. rw (fanins-on ms m) (each-length fanins ms)) (λ m. rw (fanins-off ms m)) (true-or-false (getD ms v false))
 
   pub fanins-keep : (ms : List Bool) (u : ℕ) → Marked ms u → Marked (markFanins net v ms) u
   fanins-keep ms u k =

@@ -1,4 +1,4 @@
--- Lent lists: the room that a call needs, and what it leaves behind.
+-- Lent lists: the room that a call needs, and what stands in them afterwards.
 -- Assumes nothing.
 use Prim.Native.Nat.{ℕ, _+_, _<_}
 use mathlib.Core.Bool.{Bool, _||_}

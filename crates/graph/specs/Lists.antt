@@ -23,10 +23,10 @@ unfoldable pub joined : {A : Type 0} → List (List A) → List A
 joined [] = []
 joined (xs ∷ xss) = xs ++ joined xss
 
--- the list cut into pieces of these lengths
-unfoldable pub cut : {A : Type 0} → List ℕ → List A → List (List A)
-cut [] xs = []
-cut (n ∷ ns) xs = take n xs ∷ cut ns (drop n xs)
+-- the list parted into pieces of these lengths
+unfoldable pub parted : {A : Type 0} → List ℕ → List A → List (List A)
+parted [] xs = []
+parted (n ∷ ns) xs = take n xs ∷ parted ns (drop n xs)
 
 -- n places: these numbers, and 0 in the places beyond them
 unfoldable pub filled : ℕ → List ℕ → List ℕ

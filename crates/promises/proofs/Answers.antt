@@ -4,6 +4,7 @@ use mathlib.Core.Path.{_≡_}
 use mathlib.Core.List.{List, [], _∷_}
 use Prim.Native.Nat.{ℕ}
 use lib.ListN.{length}
+use Rattle.graph.specs.declared.refusal.Refusal.{Refusal}
 use Rattle.graph.specs.declared.refusal.Refusal.the-variants.{OrderLost, NoRoom}
 use Rattle.graph.specs.Refuse.{numberOf, Answers}
 use Rattle.graph.specs.Lent.{Buffers}
@@ -14,8 +15,9 @@ use Rattle.text.specs.Refusals.{readRank, ReadGiven, writeRank, WriteGiven}
 use Rattle.text.specs.Calls.{readEffect, readOutcome, writeEffect, writtenOutcome}
 use Rattle.text.proofs.Refusals.{read-answers, read-writes-nothing, write-answers, write-writes-nothing}
 use Rattle.window.specs.declared.leaf_set.Leaves.{Leaves}
+use Rattle.window.specs.Leaves.{leavesOf}
 use Rattle.window.specs.Calls.{rootRank, RootGiven, pickAnswer, pickOutcome, windowRank, WindowGiven, tableAnswer, tableOutcome}
-use Rattle.window.proofs.Calls.{pick-answers, table-answers}
+use Rattle.window.proofs.Calls.{pick-answers, pick-refused-empty, table-answers, table-refused-zero}
 use Rattle.replacement.specs.declared.types.Proposal.{Proposal}
 use Rattle.replacement.specs.Calls.{applyRank, ApplyGiven, applyEffect, appliedOutcome}
 use Rattle.replacement.proofs.Calls.{apply-answers, apply-writes-nothing, order-lost-never-given}
@@ -64,6 +66,15 @@ pick-settled = pick-answers
 pub table-settled : (g : Graph) (root : ℕ) (w : Leaves)
     → Answers windowRank (WindowGiven g root w) ((tableOutcome (tableAnswer g root w)) .number)
 table-settled = table-answers
+
+-- and a refusal tells nothing but its number
+pub pick-refused-has-no-leaves : (g : Graph) (root : ℕ) (r : Refusal) → (pickOutcome (pickAnswer g root)) .number ≡ numberOf r
+    → (pickAnswer g root) .leaves ≡ leavesOf []
+pick-refused-has-no-leaves = pick-refused-empty
+
+pub table-refused-has-no-bits : (g : Graph) (root : ℕ) (w : Leaves) (r : Refusal)
+    → (tableOutcome (tableAnswer g root w)) .number ≡ numberOf r → (tableAnswer g root w) .table ≡ record { 0 = 0 }
+table-refused-has-no-bits = table-refused-zero
 
 -- ---- two refusals by name
 

@@ -98,7 +98,8 @@ module _ (g : Graph) (lent bytes : List ℕ) (n : ℕ) (written-now : WrittenTex
       → (r ≡ ReadText.Graph (g .net .inputs) (size (g .net)) (length (g .outputs))) × Holds g b after
   written-and-read-again b after r met = stated-is-read (take n bytes) b after r met g (reading-iff (take n bytes) g .0 read-back)
 
-pub not-read-back : (g : Graph) (lent bytes : List ℕ) (q : Refusal) (b : Buffers) → WrittenText.Refused q leaving bytes ≡ writeEffect g lent
+pub not-read-back : (g : Graph) (lent bytes : List ℕ) (q : Refusal) (b : Buffers)
+    → WrittenText.Refused q leaving bytes ≡ writeEffect g lent
     → ReadText.Refused q leaving b ≡ readBack (writeEffect g lent) b
 unfolding readBack
 not-read-back g lent bytes q b refused-now = ap (λ (e : Effect WrittenText (List ℕ)). readBack e b) refused-now

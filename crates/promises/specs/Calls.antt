@@ -1,4 +1,4 @@
--- Every call as a list of numbers: what it answers, and then each lent word as the call leaves it.
+-- Every call as a list of numbers: what it answers, and then each lent word as it is afterwards.
 -- Assumes nothing.
 use Prim.Native.Nat.{ℕ}
 use mathlib.Core.Bool.{Bool, true, false, _&&_}

@@ -8,7 +8,7 @@ use Prim.Native.Nat.{ℕ, suc}
 use lib.ListN.{length, getD}
 use Rattle.graph.specs.declared.refusal.Refusal.{Refusal}
 use Rattle.graph.specs.declared.refusal.Refusal.the-variants.{BadLine}
-use Rattle.graph.specs.Lists.{joined, cut}
+use Rattle.graph.specs.Lists.{joined, parted}
 use Rattle.graph.specs.Graph.{graphOf}
 use Rattle.text.specs.declared.header.Header.{Header}
 use Rattle.text.specs.Number.{Front}
@@ -26,14 +26,14 @@ use Rattle.text.specs.Reading.{
   withLine,
   readLines,
   gateWords,
-  graphIn,
+  graphOfSections,
   graphRead,
   refuses,
   yields,
   readBody,
 }
 use Rattle.reader.specs.Sections.{Words, words, withWords, readWords, noWords, outputWords}
-use Rattle.graph.proofs.Gathered.{cut-joined}
+use Rattle.graph.proofs.Singles.{parted-joined}
 use Rattle.text.proofs.Reading.{body-wrong, body-right}
 use Rattle.reader.proofs.Sections.{by-rule, by-line}
 
@@ -110,10 +110,10 @@ module _ (h : Header) (xs ys zs : List (List ℕ)) (i : length xs ≡ length (in
       ∙ ap₂ (λ (m n : ℕ). length xs ∷ m ∷ n ∷ []) (sym o) (sym a)
 
   graph-of-sections : graphRead h (xs ++ (ys ++ (zs ++ []))) ≡ graphOf (h .inputs) (flatMap gateWords zs) (flatMap outputWords ys)
-  unfolding graphRead graphIn joined
+  unfolding graphRead graphOfSections joined
   graph-of-sections =
-      ap (λ (ns : List ℕ). graphIn h (cut ns (joined (xs ∷ ys ∷ zs ∷ [])))) same-lengths
-      ∙ ap (graphIn h) (cut-joined (xs ∷ ys ∷ zs ∷ []))
+      ap (λ (ns : List ℕ). graphOfSections h (parted ns (joined (xs ∷ ys ∷ zs ∷ [])))) same-lengths
+      ∙ ap (graphOfSections h) (parted-joined (xs ∷ ys ∷ zs ∷ []))
       ∙ ap (graphOf (h .inputs) (flatMap gateWords zs)) (outputs-are ys)
 
 module _ (h : Header) (t : List ℕ) where

@@ -1,16 +1,17 @@
 -- A text read into words kept aside: what the lent lists hold afterwards.
 -- Assumes nothing.
 use mathlib.Core.Path.{_≡_, sym, ap₂, _∙_}
+use mathlib.Core.Bool.{Bool, true, false, _||_}
 use mathlib.Core.List.{List}
-use Prim.Native.Nat.{ℕ, _*_, _/_, _≤_, _<_}
+use Prim.Native.Nat.{ℕ, _*_, _/_, _≤_}
 use native.Mathlib.Omega.{arith}
 use lib.ListN.{length, take}
 use lib.Seq.{length-take-le}
 use Rattle.graph.specs.declared.refusal.Refusal.{Refusal}
 use Rattle.graph.specs.declared.refusal.Refusal.the-variants.{NoRoom}
 use Rattle.graph.specs.Graph.{Graph, graphOf, mostGates, mostOutputs}
-use Rattle.graph.specs.Lent.{Buffers, buffersOf, NoRoomFor, few-gate-words, few-output-words, storedIn, _leaving_}
-use Rattle.graph.proofs.Lent.{no-room-iff, room-for}
+use Rattle.graph.specs.Lent.{short, Buffers, buffersOf, noRoomFor, storedIn, _leaving_}
+use Rattle.graph.proofs.Lent.{room-places}
 use Rattle.text.specs.declared.ReadText.{ReadText}
 use Rattle.text.specs.Reading.{yields, reading}
 use Rattle.text.specs.Calls.{withRoom, readEffect}
@@ -50,19 +51,22 @@ module _ {t gs os : List ℕ} {x : ReadText} (l : Aside t gs os x) where
     outputs-count = length-take-le o os (omega (arith, l, aside-few))
 
     module _ (b : Buffers) where
-      no-room : NoRoomFor graph b → ReadText.Refused NoRoom leaving b ≡ readEffect t b
-      unfolding readEffect withRoom
-      no-room n = rw (graph-aside, no-room-iff graph b .1 n, readEffect)
+      -- the test of the room by the counts
+      module _ {r : Bool} (said : r ≡ short (2 * a) (b .gates) || short o (b .outputs)) where
+        room-is : noRoomFor graph b ≡ r
+        unfolding noRoomFor
+        room-is = rw (gates-count, outputs-count) (sym said)
 
-      pub few-gate-places : length (b .gates) < 2 * a → ReadText.Refused NoRoom leaving b ≡ readEffect t b
-      few-gate-places h = no-room (few-gate-words (rw gates-count h))
+        pub no-room : r ≡ true → ReadText.Refused NoRoom leaving b ≡ readEffect t b
+        unfolding readEffect withRoom
+        no-room e = rw (graph-aside, room-is ∙ e, readEffect)
 
-      pub few-output-places : length (b .outputs) < o → ReadText.Refused NoRoom leaving b ≡ readEffect t b
-      few-output-places h = no-room (few-output-words (rw outputs-count h))
+        pub places-enough : r ≡ false → (2 * a ≤ length (b .gates)) × (o ≤ length (b .outputs))
+        places-enough e =
+            let (h, k) = room-places graph b (room-is ∙ e) in (rw gates-count at h, rw outputs-count at k)
 
-      pub room-enough : 2 * a ≤ length (b .gates) → o ≤ length (b .outputs)
-          → ReadText.Graph i a o leaving storedIn graph b ≡ readEffect t b
-      room-enough h k =
-          let size : a ≡ length (take (2 * a) gs) / 2 = omega (arith, gates-count) in
-          ap₂ (λ (m n : ℕ). ReadText.Graph i m n leaving storedIn graph b) size (sym outputs-count)
-          ∙ sym (reads-graph t b graph graph-aside (room-for graph b (rw gates-count h) (rw outputs-count k)))
+        pub room-enough : r ≡ false → ReadText.Graph i a o leaving storedIn graph b ≡ readEffect t b
+        room-enough e =
+            let size : a ≡ length (take (2 * a) gs) / 2 = omega (arith, gates-count) in
+            ap₂ (λ (m n : ℕ). ReadText.Graph i m n leaving storedIn graph b) size (sym outputs-count)
+            ∙ sym (reads-graph t b graph graph-aside (room-is ∙ e))

@@ -19,7 +19,7 @@ use Rattle.text.specs.Reading.{Needed}
 use Rattle.reader.specs.Sections.{lineRefusal}
 use Rattle.reader.specs.Sections.{Words, wrong, words, withWords, readWords}
 use Rattle.graph.specs.Refuse.{verdictIs}
-use Rattle.graph.proofs.Gathered.{singles}
+use Rattle.graph.proofs.Singles.{singles}
 
 -- ---- lines, and then more lines
 

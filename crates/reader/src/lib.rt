@@ -7,6 +7,7 @@ ghost use mathlib.Core.Path.{_≡_};
 ghost use Rattle.graph.specs.Lent.{buffersOf, _leaving_};
 ghost use Rattle.text.specs.Calls.{readEffect};
 use aside::read_aside;
+use checker::no_room;
 use copier::copy_words;
 use graph::MOST_GATES;
 use graph::MOST_OUTPUTS;
@@ -27,10 +28,7 @@ pub fn read(text: &[u8], gates: &mut [u32], outputs: &mut [u32]) -> ReadText
             gates: gate_count,
             outputs: output_count,
         } => {
-            if gates.len() < 2 * gate_count {
-                return ReadText::Refused(Refusal::NoRoom);
-            }
-            if outputs.len() < output_count {
+            if no_room(2 * gate_count, output_count, gates, outputs) {
                 return ReadText::Refused(Refusal::NoRoom);
             }
             copy_words(&gate_words, 2 * gate_count, gates);

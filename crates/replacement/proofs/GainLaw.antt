@@ -36,7 +36,8 @@ module _ (g : Graph) (ok : Lawful g) (root : ℕ) (used : InUse g root) (w : Lea
   gain-law = same-difference (usedGates g) (usedGates (finished g root p)) (vanishing g root) (newGates p + heldBack g root p) gain-balance
 
   pub gain-iff-more-vanish : (atLeastOne (gain g root p) ≡ true) ↔ (newGates p + heldBack g root p < vanishing g root)
-  gain-iff-more-vanish = (λ e. omega (arith, gain-balance, gain-iff g root p .0 e), λ l. gain-iff g root p .1 (omega (arith, gain-balance)))
+  gain-iff-more-vanish =
+      (λ e. omega (arith, gain-balance, gain-iff g root p .0 e), λ l. gain-iff g root p .1 (omega (arith, gain-balance)))
 
   -- the gain is at most what goes less what is put there: a bound that asks nothing of the literals
   pub gain-bound : (n : ℕ) → gain g root p ≡ pos n → n + newGates p ≤ vanishing g root

@@ -234,7 +234,8 @@ module _ (g : Graph) (root : ℕ) (gate : IsGate (g .net) root) (p : Proposal) w
         (lands (t .0) u (t .2) n))
         (equal-or-not v root))
       where
-        at-root : (v u : ℕ) → v ≡ root → IsGate (g .net) v → Reached (rewired g root p) v → Fanin (rewired g root p .net) v u → Wires root p
+        at-root : (v u : ℕ) → v ≡ root → IsGate (g .net) v → Reached (rewired g root p) v → Fanin (rewired g root p .net) v u
+            → Wires root p
             → Without g root u ⊎ From (g .net) p u
         at-root v u e i r f (to-literal k l s) = absurd (root-unreached k v r e)
         at-root v u e i r f (to-and k l m x) = inr (from-named g root p u (as-named p u (root-fanin k v u i e .0 f)))

@@ -115,7 +115,8 @@ module _ (g : Graph) (ok : Lawful g) (root : ℕ) (gate : IsGate (g .net) root) 
     root-literal k t =
         let sign : (2 * root + p .turned) % 2 ≡ p .turned % 2 = omega arith in
         let var : varOf (2 * root + p .turned) ≡ root = omega arith in
-        ap (literalUnder (g′ .net) a) (root-stands root p k) ∙ ap₂ (λ (s v : ℕ). turned bools (eqb s 1) (valueUnder (g′ .net) a v)) sign var
+        ap (literalUnder (g′ .net) a) (root-stands root p k)
+        ∙ ap₂ (λ (s v : ℕ). turned bools (eqb s 1) (valueUnder (g′ .net) a v)) sign var
 
     root-is : Wires root p → literalUnder (g′ .net) a (standIn root p) ≡ proposedValue bools (valuesUnder (g′ .net) a root) p
     unfolding bools

@@ -60,12 +60,12 @@ countApart net ms ns zero = 0
 countApart net ms ns (suc k) =
     countApart net ms ns k + cond (getD ns (suc (free net + k)) false) 0 (cond (getD ms (suc (free net + k)) false) 1 0)
 
--- how many gates in use go with the root, itself included
+-- how many gates in use go with the root, itself included: those that are reached, but only through it (`vanishing-counts`)
 unfoldable pub vanishing : Graph → ℕ → ℕ
 unfolding countApart marks marksWithout
 vanishing g root = countApart (g .net) (marks g) (marksWithout g root) (size (g .net))
 
--- how many of the gates that would go the proposal's literals reach
+-- how many of the gates that would go the proposal's literals reach (`held-back-counts`)
 unfoldable pub heldBack : Graph → ℕ → Proposal → ℕ
 unfolding countApart marksBeside marksWithout
 heldBack g root p = countApart (g .net) (marksBeside g root p) (marksWithout g root) (size (g .net))

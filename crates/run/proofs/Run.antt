@@ -10,7 +10,15 @@ use Rattle.graph.specs.Graph.{Graph, size, IsGate, Lawful, WellFormed}
 use Rattle.graph.specs.Use.{usedGates}
 use Rattle.graph.specs.Drop.{dropped}
 use Rattle.graph.specs.Evaluate.{outputsUnder}
-use Rattle.graph.proofs.Drop.{AllReached, dropped-free, dropped-size, used-at-most-size, all-used, dropped-well-formed, dropped-all-reached}
+use Rattle.graph.proofs.Drop.{
+  AllReached,
+  dropped-free,
+  dropped-size,
+  used-at-most-size,
+  all-used,
+  dropped-well-formed,
+  dropped-all-reached,
+}
 use Rattle.graph.proofs.DropKeeps.{dropped-keeps-outputs}
 use Rattle.window.specs.LeafRule.{picked}
 use Rattle.window.proofs.Local.{covered-iff}
@@ -48,7 +56,11 @@ module _ (g h : Graph) (ready : Ready g) (s : Step g h) where
     well-formed =
         finished-well-formed g (ready .well-formed) (s .root) (s .is-gate) (picked (g .net) (s .root)) (proposalOf (s .best)) (fits .rule)
         (let h = best-good s in
-        omega (arith, falls-by-gain g (s .root) (proposalOf (s .best)) (s .best .gain) (best-good s .gain-is) (best-good s .at-least-one)));
+        omega (
+          arith,
+          falls-by-gain g (s .root) (proposalOf (s .best)) (s .best .gain) (best-good s .gain-is)
+              (best-good s .at-least-one),
+        ));
     all-reached = finished-all-reached g lawful (s .root) (s .is-gate) (picked (g .net) (s .root)) (proposalOf (s .best)) (fits .rule);
   }
 

@@ -34,7 +34,8 @@ unfoldable pub runRefusals : Graph → RunBuffers → List Row
 unfolding wellFormed noRoomFor
 runRefusals g b = not (wellFormed g) ⇒ BadGraph ∷ (noRoomFor g (b .result) || noRoomFor g (b .work)) ⇒ NoRoom ∷ []
 
--- the needed words of the source graph g written: those of the graph h, and 0 beyond them
+-- the needed words of the source graph g written: those of the graph h, and 0 beyond them. Only the words are stored, so that the
+-- filled lists need be no graph
 unfoldable pub filledIn : Graph → Graph → Buffers → Buffers
 unfolding filled storedIn
 filledIn g h b =

@@ -1,5 +1,5 @@
 pub mod Walk
-pub mod Answers
+pub mod ReaderAnswers
 pub mod Thin
 pub mod Asked
 pub mod Tokens

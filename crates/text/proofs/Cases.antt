@@ -52,8 +52,8 @@ unfolding refusalOf
 refuses-not-yields {r = r} e = Option·some-ne-none r (ap refusalOf e)
 
 pub yields-injective : {g h : Graph} → yields g ≡ yields h → g ≡ h
-yields-injective {g} e = ap graphIn e
+yields-injective {g} e = ap graphOfSections e
   where
-    graphIn : Reading → Graph
-    graphIn (refuses r) = g
-    graphIn (yields f) = f
+    graphOfSections : Reading → Graph
+    graphOfSections (refuses r) = g
+    graphOfSections (yields f) = f

@@ -7,8 +7,8 @@ use Prim.Native.Nat.{ℕ, zero, suc, _<_, suc-le-suc}
 use native.Mathlib.Nat.{suc-inj, suc-ne-zero, le-of-suc-le-suc, zero-lt-suc, not-suc-le-zero}
 use native.Mathlib.Omega.{arith}
 use lib.ListN.{length, getD, take, drop}
-use Rattle.graph.specs.Lists.{joined, cut}
-use Rattle.graph.proofs.Gathered.{singles, length-singles, getD-singles, cut-joined}
+use Rattle.graph.specs.Lists.{joined, parted}
+use Rattle.graph.proofs.Singles.{singles, length-singles, getD-singles, parted-joined}
 use Rattle.text.specs.Line.{line, lines}
 use Rattle.text.specs.Reading.{Needed}
 use Rattle.text.proofs.Line.{lines-decode}
@@ -105,7 +105,7 @@ unfolding joined
 all-fit-joined no-section = fits-none
 all-fit-joined (section {needs} {nss} {needss} {parts} f a) = fits-append needs (joined needss) nss (joined parts) f (all-fit-joined a)
 
--- ---- lines cut into the sections that are needed
+-- ---- lines parted into the sections that are needed
 
 record Split (needs more : List Needed) (nss : List (List ℕ)) : Type 0 where
   front : Fits needs (take (length needs) nss)
@@ -124,26 +124,26 @@ fits-split (need ∷ needs) more (ns ∷ nss) f =
     }
 
 abbrev pub partsOf : List (List Needed) → List (List ℕ) → List (List (List ℕ))
-partsOf needss nss = cut (map length needss) nss
+partsOf needss nss = parted (map length needss) nss
 
 pub parts-fit : (needss : List (List Needed)) (nss : List (List ℕ)) → Fits (joined needss) nss → AllFit needss (partsOf needss nss)
-unfolding joined cut
+unfolding joined parted
 parts-fit [] nss f = no-section
 parts-fit (needs ∷ needss) nss f =
     let s = fits-split needs (joined needss) nss f in section (s .front) (parts-fit needss (drop (length needs) nss) (s .back))
 
 pub parts-joined : (needss : List (List Needed)) (nss : List (List ℕ)) → Fits (joined needss) nss → joined (partsOf needss nss) ≡ nss
-unfolding joined cut
+unfolding joined parted
 parts-joined [] nss f = sym (none-fits nss f)
 parts-joined (needs ∷ needss) nss f =
     let s = fits-split needs (joined needss) nss f in
     ap (λ (mss : List (List ℕ)). take (length needs) nss ++ mss) (parts-joined needss (drop (length needs) nss) (s .back)) ∙ s .whole
 
--- sections that fit are what their lines are cut into
+-- sections that fit are what their lines are parted into
 same-lengths : {needss : List (List Needed)} {parts : List (List (List ℕ))} → AllFit needss parts → map length needss ≡ map length parts
 same-lengths no-section = refl
 same-lengths (section f a) = ap₂ (λ (n : ℕ) (ns : List ℕ). n ∷ ns) (sym (f .count)) (same-lengths a)
 
 pub joined-parts : {needss : List (List Needed)} {parts : List (List (List ℕ))} → AllFit needss parts
     → partsOf needss (joined parts) ≡ parts
-joined-parts {parts = parts} a = ap (λ (ns : List ℕ). cut ns (joined parts)) (same-lengths a) ∙ cut-joined parts
+joined-parts {parts = parts} a = ap (λ (ns : List ℕ). parted ns (joined parts)) (same-lengths a) ∙ parted-joined parts

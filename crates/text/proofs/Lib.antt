@@ -4,7 +4,7 @@ pub mod Line
 pub mod Fits
 pub mod States
 pub mod OneLine
-pub mod Fitting
+pub mod ReadGraph
 pub mod Small
 pub mod Spelling
 pub mod Reading

@@ -2,13 +2,13 @@
 -- Assumes nothing.
 use mathlib.Core.Path.{_≡_, ap, _∙_}
 use mathlib.Core.List.{List, [], _∷_}
-use Prim.Native.Nat.{ℕ, _+_, _-_, _*_, _≤_}
+use Prim.Native.Nat.{ℕ, _+_, _*_, _≤_}
 use borrow.Author.Tests.{leb-true, eqb-true}
 use lib.Dec.{eqb}
 use lib.ListN.{length, getD}
 use Rattle.graph.specs.Lists.{gather}
 use Rattle.graph.proofs.Lists.{and-left}
-use Rattle.graph.proofs.Gathered.{singles-are}
+use Rattle.graph.proofs.Singles.{singles-are}
 use Rattle.text.specs.declared.header.Header.{Header}
 use Rattle.text.specs.Reading.{inputNeeded, outputNeeded, gateNeeded}
 use Rattle.text.proofs.Fits.{Kept}

@@ -46,9 +46,9 @@ use Rattle.text.specs.Refusals.{Headed, readRank}
 use Rattle.text.specs.Calls.{withRoom, readEffect}
 use Rattle.text.proofs.Cases.{refuses-not-yields, yields-injective}
 use Rattle.text.proofs.Line.{header-line-iff}
-use Rattle.graph.proofs.Gathered.{singles-are}
+use Rattle.graph.proofs.Singles.{singles-are}
 use Rattle.text.proofs.States.{linesOf, text-is, lines-fit, graph-of-lines, swapsOf, bodyOf, stated-is}
-use Rattle.text.proofs.Fitting.{swapsRead, lines-of-read, read-lawful, read-counts}
+use Rattle.text.proofs.ReadGraph.{swapsRead, lines-of-read, read-lawful, read-counts}
 use Rattle.text.proofs.Small.{counts-small, numbers-small}
 use Rattle.text.proofs.Spelling.{LinesAre, read-lines-iff}
 

@@ -38,6 +38,7 @@ use Rattle.text.specs.Number.{Front, front}
 use Rattle.text.specs.States.{States, textOf}
 use Rattle.text.specs.Reading.{
   headerOf,
+  freeOf,
   headerLine,
   headerRefusals,
   Needed,
@@ -115,7 +116,7 @@ module _ (t : List ℕ) (b : Buffers) (ns rest : List ℕ) (e : headerLine t ≡
   case (ReadGiven.bad-count h k) =
       early refl
       (λ s.
-      as-read (λ ms u. ¬ ((headerOf ms) .highest ≡ (headerOf ms) .inputs + (headerOf ms) .gates)) h k
+      as-read (λ ms u. ¬ ((headerOf ms) .highest ≡ freeOf (headerOf ms) + (headerOf ms) .gates)) h k
       (denial-off _ (count-iff t counts) (s .1 .1 .0 refl)))
   case (ReadGiven.wrong-line {r} h w) = by-line (as-read (λ ms u. FirstWrong (linesNeeded (headerOf ms)) u r) h w)
   case (ReadGiven.no-room h k) = by-room h k

@@ -14,7 +14,7 @@ use Rattle.graph.specs.Graph.{Net, Graph, graphOf, free, size, first, second, I
 use Rattle.graph.proofs.Lists.{and-left, and-right, and-both}
 use Rattle.graph.proofs.Graph.{first-at, second-at}
 use Rattle.graph.proofs.Gather.{gather-same, gather-is}
-use Rattle.graph.proofs.Gathered.{singles, getD-singles, length-singles, singles-are, flatMap-singles}
+use Rattle.graph.proofs.Singles.{singles, getD-singles, length-singles, singles-are, flatMap-singles}
 use Rattle.text.specs.Line.{line, lines}
 use Rattle.text.specs.States.{
   aag,
@@ -23,14 +23,24 @@ use Rattle.text.specs.States.{
   counts,
   inputNumbers,
   outputNumbers,
-  gateLine,
+  numbersOfGate,
   gateNumbers,
   sectionsOf,
   numbersOf,
   States,
   textOf,
 }
-use Rattle.text.specs.Reading.{headerOf, inputNeeded, outputNeeded, gateNeeded, sections, linesNeeded, gateWords, graphIn, graphRead}
+use Rattle.text.specs.Reading.{
+  headerOf,
+  inputNeeded,
+  outputNeeded,
+  gateNeeded,
+  sections,
+  linesNeeded,
+  gateWords,
+  graphOfSections,
+  graphRead,
+}
 use Rattle.text.proofs.Line.{lines-decode}
 use Rattle.text.proofs.Fits.{Kept, Fits, fits-decode, section-fits, AllFit, no-section, section, all-fit-joined, joined-parts}
 
@@ -50,7 +60,7 @@ pub text-is : (g : Graph) (s : ℕ → Bool) (rest : List ℕ)
 unfolding spelling numbersOf flatMap
 text-is g s rest = ap (λ (t : List ℕ). aag ++ t) (append-assoc (line (counts g)) (lines (linesOf g s)) rest)
 
--- the writer leaves the larger right side first
+-- the writer prints the larger right side first
 abbrev pub unswapped : ℕ → Bool
 unswapped k = false
 
@@ -67,7 +77,7 @@ gate-sides ns v e =
     let r = and-right (eqb (getD ns 0 0) (2 * v)) _ (e .rule) in
     (ltb-true _ _ (and-left (ltb (getD ns 1 0) (2 * v)) _ r), ltb-true _ _ (and-right (ltb (getD ns 1 0) (2 * v)) _ r))
 
-gate-kept : (net : Net) (v : ℕ) (s : Bool) → second net v ≤ first net v → first net v < 2 * v → Kept (gateNeeded v) (gateLine net v s)
+gate-kept : (net : Net) (v : ℕ) (s : Bool) → second net v ≤ first net v → first net v < 2 * v → Kept (gateNeeded v) (numbersOfGate net v s)
 unfolding gateNeeded
 gate-kept net v s o b = record { count = refl; rule = and-both _ _ (eq-eqb (2 * v) (2 * v) refl) (sides s) }
   where
@@ -105,7 +115,8 @@ module _ (net : Net) (k : ℕ) where
   words-at (suc (suc i)) h = absurd (omega arith)
 
 -- either order of the right sides gives the gate's words
-gate-words : (net : Net) (v : ℕ) (s : Bool) → second net v ≤ first net v → gateWords (gateLine net v s) ≡ first net v ∷ second net v ∷ []
+gate-words : (net : Net) (v : ℕ) (s : Bool) → second net v ≤ first net v
+    → gateWords (numbersOfGate net v s) ≡ first net v ∷ second net v ∷ []
 unfolding gateWords
 gate-words net v true o = ap₂ (λ (x y : ℕ). x ∷ y ∷ []) (omega arith) (omega arith)
 gate-words net v false o = ap₂ (λ (x y : ℕ). x ∷ y ∷ []) (omega arith) (omega arith)
@@ -114,7 +125,7 @@ module _ (g : Graph) (s : ℕ → Bool) (w : Lawful g) where
   gates-back : flatMap gateWords (gateNumbers (g .net) s) ≡ g .net .gates
   unfolding gateNumbers
   gates-back =
-      flatMap-singles gateWords (λ k. gateLine (g .net) (suc (free (g .net) + k)) (s k)) (size (g .net))
+      flatMap-singles gateWords (λ k. numbersOfGate (g .net) (suc (free (g .net) + k)) (s k)) (size (g .net))
       ∙ gather-same _ (λ k. first (g .net) (suc (free (g .net) + k)) ∷ second (g .net) (suc (free (g .net) + k)) ∷ []) (size (g .net))
       (λ k l. gate-words (g .net) (suc (free (g .net) + k)) (s k) (w .ordered _ (is-gate g s w k l)))
       ∙ sym (gather-is 2 _ (λ k. refl) (g .net .gates) (size (g .net)) 0 (omega (arith, w .even)) (λ k i l. words-at (g .net) k i))
@@ -130,9 +141,10 @@ module _ (g : Graph) (s : ℕ → Bool) (w : Lawful g) where
       ∙ sym (singles-are (g .outputs) (length (g .outputs)) 0 refl)
 
   pub graph-of-lines : graphRead (headerOf (counts g)) (linesOf g s) ≡ g
-  unfolding graphRead graphIn sectionsOf
+  unfolding graphRead graphOfSections sectionsOf
   graph-of-lines =
-      ap (graphIn (headerOf (counts g))) (joined-parts (sections-fit g s w)) ∙ ap₂ (graphOf (g .net .inputs)) gates-back outputs-back
+      ap (graphOfSections (headerOf (counts g))) (joined-parts (sections-fit g s w))
+      ∙ ap₂ (graphOf (g .net .inputs)) gates-back outputs-back
 
 -- ---- what a text states
 
@@ -149,7 +161,7 @@ module _ {t : List ℕ} {g : Graph} (a : States t g) where
       ∙ ap (λ (nss : List (List ℕ)). spelling nss (a .spelled .rest)) (a .describes .are)
       ∙ text-is g swapsOf (a .spelled .rest)
 
--- the first line gives the counts, and these tell how the later lines are cut
+-- the first line gives the counts, and these tell how the later lines are parted
 pub states-one : (t : List ℕ) (g g′ : Graph) → States t g → States t g′ → g ≡ g′
 states-one t g g′ a b =
     let law = a .describes .lawful in

@@ -8,7 +8,7 @@ use lib.Dec.{leb, ltb, eqb}
 use lib.ListN.{length, getD}
 use Rattle.graph.specs.declared.refusal.Refusal.{Refusal}
 use Rattle.graph.specs.declared.refusal.Refusal.the-variants.{BadHeader, TooLarge, Latches, BadCount, BadLine, BadLiteral}
-use Rattle.graph.specs.Lists.{gather, joined, cut}
+use Rattle.graph.specs.Lists.{gather, joined, parted}
 use Rattle.graph.specs.Refuse.{Row, _⇒_, firstRefusal}
 use Rattle.graph.specs.Graph.{Graph, graphOf, WellFormed, largerFirst, mostInputs, mostOutputs, mostGates}
 use Rattle.text.specs.declared.header.Header.{Header}
@@ -110,15 +110,25 @@ unfoldable pub gateWords : List ℕ → List ℕ
 unfolding largerFirst
 gateWords ns = largerFirst (getD ns 1 0) (getD ns 2 0)
 
+-- the sections' numbers by name, in the order above
+abbrev pub inputsPart : List (List (List ℕ)) → List (List ℕ)
+inputsPart parts = getD parts 0 []
+
+abbrev pub outputsPart : List (List (List ℕ)) → List (List ℕ)
+outputsPart parts = getD parts 1 []
+
+abbrev pub gatesPart : List (List (List ℕ)) → List (List ℕ)
+gatesPart parts = getD parts 2 []
+
 -- the graph of the sections' numbers
-unfoldable pub graphIn : Header → List (List (List ℕ)) → Graph
+unfoldable pub graphOfSections : Header → List (List (List ℕ)) → Graph
 unfolding gateWords flatMap
-graphIn h parts = graphOf (h .inputs) (flatMap gateWords (getD parts 2 [])) (map (λ ns. getD ns 0 0) (getD parts 1 []))
+graphOfSections h parts = graphOf (h .inputs) (flatMap gateWords (gatesPart parts)) (map (λ ns. getD ns 0 0) (outputsPart parts))
 
 -- the graph of the lines' numbers
 unfoldable pub graphRead : Header → List (List ℕ) → Graph
-unfolding graphIn cut sections
-graphRead h nss = graphIn h (cut (map length (sections h)) nss)
+unfolding graphOfSections parted sections
+graphRead h nss = graphOfSections h (parted (map length (sections h)) nss)
 
 -- what a text is read as
 pub data Reading : Type 0 where

@@ -6,7 +6,16 @@ use mathlib.Core.Bool.{true, false}
 use mathlib.Core.List.{List, [], _∷_, _++_}
 use lib.ListN.{length, getD}
 use Rattle.graph.specs.declared.refusal.Refusal.{Refusal}
-use Rattle.graph.specs.declared.refusal.Refusal.the-variants.{BadHeader, TooLarge, Latches, BadCount, BadLine, BadLiteral, BadGraph, NoRoom}
+use Rattle.graph.specs.declared.refusal.Refusal.the-variants.{
+  BadHeader,
+  TooLarge,
+  Latches,
+  BadCount,
+  BadLine,
+  BadLiteral,
+  BadGraph,
+  NoRoom,
+}
 use Rattle.graph.specs.Refuse.{numberOf}
 use Rattle.graph.specs.Graph.{Graph, WellFormed, mostInputs, mostOutputs, mostGates}
 use Rattle.graph.specs.Lent.{Buffers, NoRoomFor}
@@ -34,7 +43,8 @@ pub data FirstWrong : List Needed → List ℕ → Refusal → Type 0 where
       → FirstWrong (need ∷ needs) t BadLine
   breaks : {need : Needed} {needs : List Needed} {t ns rest : List ℕ} → Shaped (need .numbers) t ns rest → need .rule ns ≡ false
       → FirstWrong (need ∷ needs) t BadLiteral
-  later : {need : Needed} {needs : List Needed} {t ns rest : List ℕ} {r : Refusal} → Shaped (need .numbers) t ns rest → need .rule ns ≡ true
+  later : {need : Needed} {needs : List Needed} {t ns rest : List ℕ} {r : Refusal} → Shaped (need .numbers) t ns rest
+      → need .rule ns ≡ true
       → FirstWrong needs rest r → FirstWrong (need ∷ needs) t r
 
 -- its refusals rank by their numbers

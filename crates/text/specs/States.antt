@@ -53,13 +53,13 @@ unfolding gather
 outputNumbers os = gather (λ j. (getD os j 0 ∷ []) ∷ []) (length os)
 
 -- the line of variable v's gate has left side 2v, and its right sides in either order: smaller first where s holds
-abbrev pub gateLine : Net → ℕ → Bool → List ℕ
-gateLine net v s = 2 * v ∷ cond s (second net v) (first net v) ∷ cond s (first net v) (second net v) ∷ []
+abbrev pub numbersOfGate : Net → ℕ → Bool → List ℕ
+numbersOfGate net v s = 2 * v ∷ cond s (second net v) (first net v) ∷ cond s (first net v) (second net v) ∷ []
 
 -- gate line k, from 1, is that of variable I + k; s tells which gates have their smaller right side first
 unfoldable pub gateNumbers : Net → (ℕ → Bool) → List (List ℕ)
 unfolding gather
-gateNumbers net s = gather (λ k. gateLine net (suc (free net + k)) (s k) ∷ []) (size net)
+gateNumbers net s = gather (λ k. numbersOfGate net (suc (free net + k)) (s k) ∷ []) (size net)
 
 -- the sections after the first line
 unfoldable pub sectionsOf : Graph → (ℕ → Bool) → List (List (List ℕ))

@@ -1,5 +1,5 @@
 pub mod Elem
-pub mod Tests
+pub mod LoopTests
 pub mod Locals
 pub mod Rest
 pub mod Meets

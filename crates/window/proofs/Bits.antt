@@ -59,7 +59,8 @@ bit-suc x i = ap isOdd (ap (λ (k : ℕ). x / 2 ^ k) (sym (one-add i)) ∙ sym (
 pub pack-lt : (n : ℕ) (f : ℕ → Bool) → pack n f < 2 ^ n
 unfolding pack
 pack-lt zero f = lit< tt
-pack-lt (suc n) f = rw (pow-suc 2 n) (let h : pack n (λ i. f (suc i)) < 2 ^ n = pack-lt n (λ i. f (suc i)) in omega (arith, digit-lt (f 0)))
+pack-lt (suc n) f =
+    rw (pow-suc 2 n) (let h : pack n (λ i. f (suc i)) < 2 ^ n = pack-lt n (λ i. f (suc i)) in omega (arith, digit-lt (f 0)))
 
 pub pack-and : (n : ℕ) (f g : ℕ → Bool) → bitAnd (pack n f) (pack n g) ≡ pack n (λ i. f i && g i)
 unfolding pack

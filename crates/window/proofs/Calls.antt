@@ -2,6 +2,7 @@
 -- Assumes nothing.
 use mathlib.Core.Path.{_≡_, refl}
 use mathlib.Core.Bool.{true, false, not}
+use mathlib.Core.List.{[]}
 use mathlib.Core.Logic.{_↔_, _⊎_, inl, inr}
 use mathlib.Core.Option.{none}
 use Prim.Native.Nat.{ℕ, _≤_}
@@ -13,10 +14,20 @@ use Rattle.graph.specs.Graph.{Graph, wellFormed, WellFormed}
 use Rattle.graph.specs.Use.{inUse, InUse}
 use Rattle.graph.proofs.Graph.{well-formed-iff}
 use Rattle.graph.proofs.Use.{in-use-iff}
-use Rattle.graph.proofs.Refuse.{numberOf-injective, settles-answers, ascends, Silent, Decides, none-silent, first-settles, decides-join}
+use Rattle.graph.proofs.Refuse.{
+  numberOf-injective,
+  settles-answers,
+  shown,
+  ascends,
+  Silent,
+  Decides,
+  none-silent,
+  first-settles,
+  decides-join,
+}
 use Rattle.graph.proofs.Tests.{denial-on, denial-off}
 use Rattle.window.specs.declared.leaf_set.Leaves.{Leaves}
-use Rattle.window.specs.Leaves.{WellSet}
+use Rattle.window.specs.Leaves.{leavesOf, WellSet}
 use Rattle.window.specs.Local.{covered, Covered}
 use Rattle.window.specs.Calls.{
   rootRefusals,
@@ -70,6 +81,12 @@ module _ (g : Graph) (root : ℕ) where
   pub pick-answers : Answers rootRank (RootGiven g root) ((pickOutcome (pickAnswer g root)) .number)
   unfolding pickAnswer pickOutcome verdictOutcome
   pick-answers = settles-answers numberOf-injective (first-settles root-decides) _ (λ q e. rw (e, pickAnswer)) (λ e. rw (e, pickAnswer))
+
+  -- a refusal answers no leaves
+  pub pick-refused-empty : (r : Refusal) → (pickOutcome (pickAnswer g root)) .number ≡ numberOf r
+      → (pickAnswer g root) .leaves ≡ leavesOf []
+  unfolding pickAnswer pickOutcome verdictOutcome
+  pick-refused-empty r e = let s = shown (firstRefusal (rootRefusals g root)) _ (λ n. rw (n, pickAnswer)) r e in rw (s .1, pickAnswer)
 
 -- ---- leaves besides that cut the root
 
@@ -127,3 +144,10 @@ module _ (g : Graph) (root : ℕ) (w : Leaves) where
   unfolding tableAnswer tableOutcome
   table-answers =
       settles-answers numberOf-injective (first-settles window-decides) _ (λ q e. rw (e, tableAnswer)) (λ e. rw (e, tableAnswer))
+
+  -- a refusal answers a table of zeros
+  pub table-refused-zero : (r : Refusal) → (tableOutcome (tableAnswer g root w)) .number ≡ numberOf r
+      → (tableAnswer g root w) .table ≡ record { 0 = 0 }
+  unfolding tableAnswer tableOutcome verdictOutcome
+  table-refused-zero r e =
+      let s = shown (firstRefusal (windowRefusals g root w)) _ (λ n. rw (n, tableAnswer)) r e in rw (s .1, tableAnswer)

@@ -100,7 +100,8 @@ module _ (g : Graph) (law : Lawful g) where
   open Graph g using (net)
 
   -- fanin variables are below the gate, so they keep below any bound on it
-  fanins-below : (v bound : ℕ) (xs : List ℕ) → IsGate net v → v ≤ bound → ((u : ℕ) → u ∈ xs → u < bound) → (u : ℕ) → u ∈ withFanins net v xs
+  fanins-below : (v bound : ℕ) (xs : List ℕ) → IsGate net v → v ≤ bound → ((u : ℕ) → u ∈ xs → u < bound) → (u : ℕ)
+      → u ∈ withFanins net v xs
       → u < bound
   fanins-below v bound xs i h f u j = ⊎-elim
       (λ e. omega (arith, law .below v i))

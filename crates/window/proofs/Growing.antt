@@ -160,7 +160,8 @@ module _ (inputs : ℕ) (gates : List ℕ) (v at : ℕ) (e : at ≡ v - (inputs 
   pub second-word : varOf (second (netOf inputs gates) v) ≡ getD gates (2 * at + 1) 0 / 2
   unfolding second
   second-word =
-      ap (λ (k : ℕ). getD gates k 0 / 2) (sym (add-one (2 * at) ∙ ap (λ (k : ℕ). suc (2 * k)) (e ∙ ap (λ (k : ℕ). v - k) (add-one inputs))))
+      ap (λ (k : ℕ). getD gates k 0 / 2)
+      (sym (add-one (2 * at) ∙ ap (λ (k : ℕ). suc (2 * k)) (e ∙ ap (λ (k : ℕ). v - k) (add-one inputs))))
 
 -- the fanin variables a and b put in one after the other, b first
 module _ (net : Net) (v a b : ℕ) (xs : List ℕ) (p : varOf (first net v) ≡ a) (q : varOf (second net v) ≡ b) where

@@ -61,5 +61,12 @@ fanins-weight v a b xs h l = ⊎-elim
     subst (λ (c : ℕ). weight (insert a (insert c xs)) < 2 ^ v + weight xs) e
     (rw (insert-again a xs) (omega (arith, insert-weight (insert-is a xs), pow-lt l))))
     (λ k.
-    omega (arith, insert-weight (insert-is a (insert b xs)), insert-weight (insert-is b xs), pow-lt k, pow-suc 2 a, pow-mono {i = suc a} l))
+    omega (
+      arith,
+      insert-weight (insert-is a (insert b xs)),
+      insert-weight (insert-is b xs),
+      pow-lt k,
+      pow-suc 2 a,
+      pow-mono {i = suc a} l,
+    ))
     (at-most-or-above a b)

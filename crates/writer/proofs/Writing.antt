@@ -18,14 +18,14 @@ use Rattle.graph.specs.Lent.{short, laid, _leaving_}
 use Rattle.graph.specs.Refuse.{firstRefusal, verdictIs}
 use Rattle.graph.proofs.Graph.{first-at, second-at}
 use Rattle.graph.proofs.Gather.{gather-same, gather-front}
-use Rattle.graph.proofs.Gathered.{flatMap-joined, flatMap-singles}
+use Rattle.graph.proofs.Singles.{flatMap-joined, flatMap-singles}
 use Rattle.graph.proofs.Lent.{laid-front}
 use Rattle.graph.proofs.Refuse.{none-silent}
 use Rattle.text.specs.declared.WrittenText.{WrittenText}
 use Rattle.text.specs.Number.{decimal}
 use Rattle.text.specs.Line.{separator, line, lines}
 use Rattle.text.specs.Calls.{writeRefusals, writeEffect}
-use Rattle.text.specs.States.{aag, inputNumbers, outputNumbers, gateLine, gateNumbers, sectionsOf, textOf}
+use Rattle.text.specs.States.{aag, inputNumbers, outputNumbers, numbersOfGate, gateNumbers, sectionsOf, textOf}
 use Rattle.text.specs.Refusals.{writeRank}
 use Rattle.text.proofs.States.{text-of-is}
 
@@ -64,7 +64,7 @@ gateLineOf i gs k = line (2 * suc (i + k) ∷ getD gs (2 * k) 0 ∷ getD gs (2 *
 pub gate-lines : (i : ℕ) (gs : List ℕ) → lines (gateNumbers (netOf i gs) (λ k. false)) ≡ gather (gateLineOf i gs) (length gs / 2)
 unfolding gateNumbers
 gate-lines i gs =
-    flatMap-singles line (λ k. gateLine (netOf i gs) (suc (i + k)) false) (length gs / 2)
+    flatMap-singles line (λ k. numbersOfGate (netOf i gs) (suc (i + k)) false) (length gs / 2)
     ∙ gather-same _ _ (length gs / 2) (λ k h. rw (first-at (netOf i gs) k, second-at (netOf i gs) k))
 
 -- ---- the whole text
@@ -90,7 +90,8 @@ module _ (i : ℕ) (gs os : List ℕ) where
   unfolding sectionsOf joined inputNumbers
   text-parts =
       text-of-is (graphOf i gs os)
-      ∙ ap (λ (t : List ℕ). aag ++ (line (countsOf i gs os) ++ (t ++ []))) (flatMap-joined line (sectionsOf (graphOf i gs os) (λ k. false)))
+      ∙ ap (λ (t : List ℕ). aag ++ (line (countsOf i gs os) ++ (t ++ [])))
+      (flatMap-joined line (sectionsOf (graphOf i gs os) (λ k. false)))
       ∙ regroup aag (line (countsOf i gs os)) (inputPart i) (outputPart os) (gatePart i gs)
     where
       regroup : (a b c d e : List ℕ) → a ++ (b ++ ((c ++ (d ++ (e ++ []))) ++ [])) ≡ a ++ b ++ c ++ d ++ e

@@ -22,15 +22,15 @@ returns c =
 expand-requires : tie.Need-expand-requires
 expand-requires c κs = search needs
 
-smaller-requires : tie.Need-smaller-requires
-smaller-requires c κs = search needs
+better-requires : tie.Need-better-requires
+better-requires c κs = search needs
 
 returns-2 : tie.Need-returns-2
 unfolding tried
 returns-2 c =
     let s = c .before .before .before .before .before in
     let gate : s .args .inputs < s .args .v .0 = omega (arith, c .before .before .before .at .ensures, c .before .before .if1 .left) in
-    rw (lt-leb _ _ gate) (c .smaller .ensures ∙ ap (better (s .args .best)) (c .before .expand .ensures))
+    rw (lt-leb _ _ gate) (c .better .ensures ∙ ap (better (s .args .best)) (c .before .expand .ensures))
 
 pub try-leaf-spec : {M : Type 1} → statement M
-try-leaf-spec = tie.close (tie.spec at-requires returns expand-requires smaller-requires returns-2)
+try-leaf-spec = tie.close (tie.spec at-requires returns expand-requires better-requires returns-2)

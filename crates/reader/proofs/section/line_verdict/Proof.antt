@@ -1,4 +1,4 @@
--- `reader::line::line_verdict` meets its contract: the shape is tested first, then the rule.
+-- `reader::section::line_verdict` meets its contract: the shape is tested first, then the rule.
 -- Assumes nothing.
 use borrow.Author.Tests.{not-true, not-false}
 use Rattle.graph.specs.Refuse.{verdictIs}

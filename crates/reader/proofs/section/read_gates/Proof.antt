@@ -14,7 +14,7 @@ use Rattle.text.specs.Reading.{Needed, freeOf, gateNeeded, gateWords}
 use Rattle.scanner.specs.Lines.{lineStep}
 use Rattle.reader.specs.Sections.{readWords, sectionWords}
 use Rattle.reader.proofs.Sections.{SoFar, none-so-far, line-refused, line-fine}
-use Rattle.graph.proofs.Gathered.{singles}
+use Rattle.graph.proofs.Singles.{singles}
 use Rattle.graph.proofs.Lent.{take-laid}
 use Rattle.reader.proofs.section.read_gates.Statement.{statement}
 use Rattle.reader.proofs.section.read_gates.Tie as tie

@@ -38,7 +38,7 @@ use Rattle.walks.proofs.Locals.{cells, reversed}
 use Rattle.walks.proofs.Meets.{meets}
 use Rattle.text.specs.Line.{space, lineFeed}
 use Rattle.scanner.proofs.Walk.{Held}
-use Rattle.scanner.proofs.Answers.{a-number, the-byte}
+use Rattle.scanner.proofs.ReaderAnswers.{a-number, the-byte}
 use Rattle.scanner.proofs.Asked.{Text}
 use Rattle.scanner.proofs.LineWalk.{Nearer, Nearer-wf, at-first}
 use Rattle.scanner.proofs.text_reader.TextReader.number.Symbol as number-def
@@ -99,7 +99,8 @@ module _ {M : Type 1} (𝓤 : URA M) (H : Heap 𝓤) (A : Atoms 𝓤) (W : Given
       alloc1 ! (λ l₀. alloc1 ! (λ l₁. alloc1 ! (λ l₂. alloc1 ! (λ l₃. alloc1 ! (λ l₄. alloc1 ! (λ l₅. alloc1 ! (λ l₆.
       alloc1 ! (λ l₇. alloc1 ! (λ l₈. alloc1 ! (λ l₉. alloc1 ! (λ l₁₀. alloc1 ! (λ l₁₁. alloc1 ! (λ l₁₂. alloc1 ! (λ l₁₃.
       alloc1 ! (λ l₁₄. alloc1 ! (λ l₁₅. alloc1 ! (λ l₁₆. alloc1 ! (λ l₁₇. alloc1 ! (λ l₁₈. alloc0 ! $ params1 ! $
-      pass1 ! (init ! 34 refl (tt, (tt, (record { fits = p .fits .0 }, tt)))) $ pass1 ! (init ! 32 refl (typed-word (p .at) (p .at-fits))) $
+      pass1 ! (init ! 34 refl (tt, (tt, (record { fits = p .fits .0 }, tt)))) $
+      pass1 ! (init ! 32 refl (typed-word (p .at) (p .at-fits))) $
       pass1 ! (init ! 30 refl (tt, (tt, (record { fits = p .fits₂ .0 }, tt)))) $ pass0 ! $
       fills ! (agg ! (and-then ! (local-at ! 34 refl) (and-then ! (local-at ! 32 refl) (no-more !)))) 28 refl
       (typed-reader p (p .at) (p .at-fits)) $

@@ -11,7 +11,8 @@ use Rattle.scanner.proofs.number.digits_at.Statement.{statement}
 use Rattle.scanner.proofs.number.digits_at.Tie as tie
 
 abbrev Inv-loop : tie.InvT-loop
-Inv-loop text at value₀ next₀ digit₀ value next digit = RunTo text at next value × (digit ≡ digitAt (drop next text)) × (value ≤ mostNumber)
+Inv-loop text at value₀ next₀ digit₀ value next digit =
+    RunTo text at next value × (digit ≡ digitAt (drop next text)) × (value ≤ mostNumber)
 
 abbrev μ-loop : tie.MeasureT-loop
 μ-loop text at value₀ next₀ digit₀ value next digit = length text - next

@@ -56,7 +56,7 @@ use denote.Triple.Statement.{Triple}
 use Rattle.walks.proofs.Assign.{local-at, field-at, fills, sets}
 use Rattle.walks.proofs.Elem.{elem-open, elem-close}
 use Rattle.walks.proofs.Rest.{rest-of}
-use Rattle.walks.proofs.Tests.{while-holds, breaks-unless}
+use Rattle.walks.proofs.LoopTests.{while-holds, breaks-unless}
 use Rattle.text.specs.Number.{number}
 use Rattle.text.specs.Line.{space, lineFeed, separator, after}
 use Rattle.scanner.specs.declared.bytes.ByteStep.{ByteStep}
@@ -67,7 +67,7 @@ use Rattle.scanner.proofs.bytes.ByteStep.Laws as B′
 use Rattle.scanner.proofs.number.NumberStep as N
 use Rattle.scanner.proofs.number.NumberStep.Laws as N′
 use Rattle.scanner.proofs.Walk.{Held}
-use Rattle.scanner.proofs.Answers.{a-number, the-byte}
+use Rattle.scanner.proofs.ReaderAnswers.{a-number, the-byte}
 use Rattle.scanner.proofs.Asked.{asks, asks-last}
 use Rattle.scanner.proofs.Lines.{next-held}
 use Rattle.scanner.proofs.LineWalk.{

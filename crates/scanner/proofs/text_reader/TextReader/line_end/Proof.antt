@@ -1,7 +1,7 @@
 -- `scanner::text_reader::TextReader::line_end` meets its contract: it is thin over `line_end_at` (`Thin.antt`).
 -- Assumes nothing.
 use Rattle.text.specs.Line.{lineFeed}
-use Rattle.scanner.proofs.Answers.{the-byte}
+use Rattle.scanner.proofs.ReaderAnswers.{the-byte}
 use Rattle.scanner.proofs.Thin.{thin-meets}
 use Rattle.scanner.proofs.bytes.line_end_at.Symbol as callee
 use Rattle.scanner.proofs.bytes.line_end_at.Met as proved

@@ -1,6 +1,6 @@
 -- `scanner::text_reader::TextReader::number` meets its contract: it is thin over `number_at` (`Thin.antt`).
 -- Assumes nothing.
-use Rattle.scanner.proofs.Answers.{a-number}
+use Rattle.scanner.proofs.ReaderAnswers.{a-number}
 use Rattle.scanner.proofs.Thin.{thin-meets}
 use Rattle.scanner.proofs.number.number_at.Symbol as callee
 use Rattle.scanner.proofs.number.number_at.Met as proved

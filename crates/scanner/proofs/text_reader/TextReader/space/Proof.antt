@@ -1,7 +1,7 @@
 -- `scanner::text_reader::TextReader::space` meets its contract: it is thin over `space_at` (`Thin.antt`).
 -- Assumes nothing.
 use Rattle.text.specs.Line.{space}
-use Rattle.scanner.proofs.Answers.{the-byte}
+use Rattle.scanner.proofs.ReaderAnswers.{the-byte}
 use Rattle.scanner.proofs.Thin.{thin-meets}
 use Rattle.scanner.proofs.bytes.space_at.Symbol as callee
 use Rattle.scanner.proofs.bytes.space_at.Met as proved

@@ -11,9 +11,9 @@ use lib.ListN.{length, getD, length-map, List·getD-map}
 use Rattle.graph.specs.Lists.{gather, joined}
 use Rattle.graph.specs.Graph.{Graph, graphOf, size, first, second, IsGate, Lawful}
 use Rattle.graph.proofs.Gather.{gather-same, length-gather, getD-gather}
-use Rattle.graph.proofs.Gathered.{singles, length-singles, getD-singles, singles-are, flatMap-singles}
+use Rattle.graph.proofs.Singles.{singles, length-singles, getD-singles, singles-are, flatMap-singles}
 use Rattle.text.specs.declared.header.Header.{Header}
-use Rattle.text.specs.States.{counts, inputNumbers, outputNumbers, gateLine, gateNumbers, sectionsOf}
+use Rattle.text.specs.States.{counts, inputNumbers, outputNumbers, numbersOfGate, gateNumbers, sectionsOf}
 use Rattle.text.specs.Reading.{
   freeOf,
   inputNeeded,
@@ -23,9 +23,12 @@ use Rattle.text.specs.Reading.{
   outputsNeeded,
   gatesNeeded,
   sections,
+  inputsPart,
+  outputsPart,
+  gatesPart,
   linesNeeded,
   gateWords,
-  graphIn,
+  graphOfSections,
   graphRead,
 }
 use Rattle.text.proofs.Fits.{Kept, Fits, section-count, section-each, AllFit, no-section, section, partsOf, parts-fit, parts-joined}
@@ -34,57 +37,58 @@ use Rattle.text.proofs.OneLine.{input-kept, output-kept, output-is, gat
 
 -- ---- the sections of a header
 
-record Cut (h : Header) (parts : List (List (List ℕ))) : Type 0 where
-  are : parts ≡ getD parts 0 [] ∷ getD parts 1 [] ∷ getD parts 2 [] ∷ []
-  inputs : Fits (inputsNeeded h) (getD parts 0 [])
-  outputs : Fits (outputsNeeded h) (getD parts 1 [])
-  gates : Fits (gatesNeeded h) (getD parts 2 [])
+record InSections (h : Header) (parts : List (List (List ℕ))) : Type 0 where
+  are : parts ≡ inputsPart parts ∷ outputsPart parts ∷ gatesPart parts ∷ []
+  inputs : Fits (inputsNeeded h) (inputsPart parts)
+  outputs : Fits (outputsNeeded h) (outputsPart parts)
+  gates : Fits (gatesNeeded h) (gatesPart parts)
 
-cut-of : (h : Header) (parts : List (List (List ℕ))) → AllFit (sections h) parts → Cut h parts
+in-sections : (h : Header) (parts : List (List (List ℕ))) → AllFit (sections h) parts → InSections h parts
 unfolding sections
-cut-of h parts (section i (section o (section a no-section))) = record { are = refl; inputs = i; outputs = o; gates = a }
+in-sections h parts (section i (section o (section a no-section))) = record { are = refl; inputs = i; outputs = o; gates = a }
 
 -- ---- the graph that is read from them
 
-module _ (h : Header) (parts : List (List (List ℕ))) (c : Cut h parts) where
+module _ (h : Header) (parts : List (List (List ℕ))) (c : InSections h parts) where
   abbrev gateAt : ℕ → List ℕ
-  gateAt k = getD (getD parts 2 []) k []
+  gateAt k = getD (gatesPart parts) k []
 
   abbrev outputAt : ℕ → ℕ
-  outputAt j = getD (getD (getD parts 1 []) j []) 0 0
+  outputAt j = getD (getD (outputsPart parts) j []) 0 0
 
   abbrev read : Graph
   read = graphOf (h .inputs) (gather (λ k. gateWords (gateAt k)) (h .gates)) (singles outputAt (h .outputs))
 
-  input : (k : ℕ) → k < h .inputs → Kept (inputNeeded (suc k)) (getD (getD parts 0 []) k [])
-  input = section-each (λ k. inputNeeded (suc k)) (h .inputs) (getD parts 0 []) (c .inputs)
+  input : (k : ℕ) → k < h .inputs → Kept (inputNeeded (suc k)) (getD (inputsPart parts) k [])
+  input = section-each (λ k. inputNeeded (suc k)) (h .inputs) (inputsPart parts) (c .inputs)
 
-  output : (j : ℕ) → j < h .outputs → Kept (outputNeeded h) (getD (getD parts 1 []) j [])
-  output = section-each (λ j. outputNeeded h) (h .outputs) (getD parts 1 []) (c .outputs)
+  output : (j : ℕ) → j < h .outputs → Kept (outputNeeded h) (getD (outputsPart parts) j [])
+  output = section-each (λ j. outputNeeded h) (h .outputs) (outputsPart parts) (c .outputs)
 
   gate : (k : ℕ) → k < h .gates → Kept (gateNeeded (suc (freeOf h + k))) (gateAt k)
-  gate = section-each (λ k. gateNeeded (suc (freeOf h + k))) (h .gates) (getD parts 2 []) (c .gates)
+  gate = section-each (λ k. gateNeeded (suc (freeOf h + k))) (h .gates) (gatesPart parts) (c .gates)
 
-  input-count : length (getD parts 0 []) ≡ h .inputs
-  input-count = section-count (λ k. inputNeeded (suc k)) (h .inputs) (getD parts 0 []) (c .inputs)
+  input-count : length (inputsPart parts) ≡ h .inputs
+  input-count = section-count (λ k. inputNeeded (suc k)) (h .inputs) (inputsPart parts) (c .inputs)
 
-  output-count : length (getD parts 1 []) ≡ h .outputs
-  output-count = section-count (λ j. outputNeeded h) (h .outputs) (getD parts 1 []) (c .outputs)
+  output-count : length (outputsPart parts) ≡ h .outputs
+  output-count = section-count (λ j. outputNeeded h) (h .outputs) (outputsPart parts) (c .outputs)
 
-  gate-count : length (getD parts 2 []) ≡ h .gates
-  gate-count = section-count (λ k. gateNeeded (suc (freeOf h + k))) (h .gates) (getD parts 2 []) (c .gates)
+  gate-count : length (gatesPart parts) ≡ h .gates
+  gate-count = section-count (λ k. gateNeeded (suc (freeOf h + k))) (h .gates) (gatesPart parts) (c .gates)
 
-  gates-read : flatMap gateWords (getD parts 2 []) ≡ gather (λ k. gateWords (gateAt k)) (h .gates)
-  gates-read = ap (flatMap gateWords) (singles-are (getD parts 2 []) (h .gates) [] gate-count) ∙ flatMap-singles gateWords gateAt (h .gates)
+  gates-read : flatMap gateWords (gatesPart parts) ≡ gather (λ k. gateWords (gateAt k)) (h .gates)
+  gates-read =
+      ap (flatMap gateWords) (singles-are (gatesPart parts) (h .gates) [] gate-count) ∙ flatMap-singles gateWords gateAt (h .gates)
 
-  outputs-read : map (λ ns. getD ns 0 0) (getD parts 1 []) ≡ singles outputAt (h .outputs)
+  outputs-read : map (λ ns. getD ns 0 0) (outputsPart parts) ≡ singles outputAt (h .outputs)
   outputs-read =
-      singles-are (map (λ ns. getD ns 0 0) (getD parts 1 [])) (h .outputs) 0
-      (length-map (getD parts 1 []) (λ ns. getD ns 0 0) ∙ output-count)
-      ∙ gather-same _ _ (h .outputs) (λ j l. ap (λ (x : ℕ). x ∷ []) (List·getD-map (λ ns. getD ns 0 0) (getD parts 1 []) j []))
+      singles-are (map (λ ns. getD ns 0 0) (outputsPart parts)) (h .outputs) 0
+      (length-map (outputsPart parts) (λ ns. getD ns 0 0) ∙ output-count)
+      ∙ gather-same _ _ (h .outputs) (λ j l. ap (λ (x : ℕ). x ∷ []) (List·getD-map (λ ns. getD ns 0 0) (outputsPart parts) j []))
 
-  graph-is : graphIn h parts ≡ read
-  unfolding graphIn
+  graph-is : graphOfSections h parts ≡ read
+  unfolding graphOfSections
   graph-is = ap₂ (graphOf (h .inputs)) gates-read outputs-read
 
   -- the smaller right side stands first
@@ -120,7 +124,7 @@ module _ (h : Header) (parts : List (List (List ℕ))) (c : Cut h parts) where
     below-read : first (read .net) (suc (freeOf h + k)) < 2 * suc (freeOf h + k)
     below-read = rw first-read (omega (arith, gate-sides (gateAt k) (suc (freeOf h + k)) (gate k l)))
 
-    gate-read : gateAt k ≡ gateLine (read .net) (suc (freeOf h + k)) (swap k)
+    gate-read : gateAt k ≡ numbersOfGate (read .net) (suc (freeOf h + k)) (swap k)
     gate-read = gate-is (gateAt k) (suc (freeOf h + k)) (gate k l) ∙ go (swap k) refl
       where
         x : ℕ
@@ -129,7 +133,7 @@ module _ (h : Header) (parts : List (List (List ℕ))) (c : Cut h parts) where
         y : ℕ
         y = getD (gateAt k) 2 0
 
-        go : (s : Bool) → ltb x y ≡ s → 2 * suc (freeOf h + k) ∷ x ∷ y ∷ [] ≡ gateLine (read .net) (suc (freeOf h + k)) s
+        go : (s : Bool) → ltb x y ≡ s → 2 * suc (freeOf h + k) ∷ x ∷ y ∷ [] ≡ numbersOfGate (read .net) (suc (freeOf h + k)) s
         go true e = ap₂ (λ (u w : ℕ). 2 * suc (freeOf h + k) ∷ u ∷ w ∷ [])
             (omega (arith, ltb-true x y e, second-read)) (omega (arith, ltb-true x y e, first-read))
         go false e = ap₂ (λ (u w : ℕ). 2 * suc (freeOf h + k) ∷ u ∷ w ∷ [])
@@ -141,32 +145,32 @@ module _ (h : Header) (parts : List (List (List ℕ))) (c : Cut h parts) where
 
   -- ---- its lines are these
 
-  inputs-are : getD parts 0 [] ≡ inputNumbers (read .net)
+  inputs-are : inputsPart parts ≡ inputNumbers (read .net)
   unfolding inputNumbers
   inputs-are =
-      singles-are (getD parts 0 []) (h .inputs) [] input-count
-      ∙ gather-same _ _ (h .inputs) (λ k l. ap (λ (ns : List ℕ). ns ∷ []) (input-kept (getD (getD parts 0 []) k []) (suc k) (input k l)))
+      singles-are (inputsPart parts) (h .inputs) [] input-count
+      ∙ gather-same _ _ (h .inputs) (λ k l. ap (λ (ns : List ℕ). ns ∷ []) (input-kept (getD (inputsPart parts) k []) (suc k) (input k l)))
 
-  outputs-are : getD parts 1 [] ≡ outputNumbers (read .outputs)
+  outputs-are : outputsPart parts ≡ outputNumbers (read .outputs)
   unfolding outputNumbers
   outputs-are =
-      singles-are (getD parts 1 []) (length (read .outputs)) [] (output-count ∙ sym outputs-count)
+      singles-are (outputsPart parts) (length (read .outputs)) [] (output-count ∙ sym outputs-count)
       ∙ gather-same _ _ (length (read .outputs)) (λ j l.
       let m : j < h .outputs = omega (arith, outputs-count) in
       ap (λ (ns : List ℕ). ns ∷ [])
-      (output-is (getD (getD parts 1 []) j []) h (output j m) ∙ ap (λ (x : ℕ). x ∷ []) (sym (getD-singles outputAt (h .outputs) j 0 m))))
+      (output-is (getD (outputsPart parts) j []) h (output j m) ∙ ap (λ (x : ℕ). x ∷ []) (sym (getD-singles outputAt (h .outputs) j 0 m))))
 
-  gates-are : getD parts 2 [] ≡ gateNumbers (read .net) swap
+  gates-are : gatesPart parts ≡ gateNumbers (read .net) swap
   unfolding gateNumbers
   gates-are =
-      singles-are (getD parts 2 []) (size (read .net)) [] (gate-count ∙ sym size-read)
+      singles-are (gatesPart parts) (size (read .net)) [] (gate-count ∙ sym size-read)
       ∙ gather-same _ _ (size (read .net)) (λ k l. ap (λ (ns : List ℕ). ns ∷ []) (gate-read k (omega (arith, size-read))))
 
   parts-read : parts ≡ sectionsOf read swap
   unfolding sectionsOf
   parts-read =
       c .are
-      ∙ ap (λ (is : List (List ℕ)). is ∷ getD parts 1 [] ∷ getD parts 2 [] ∷ []) inputs-are
+      ∙ ap (λ (is : List (List ℕ)). is ∷ outputsPart parts ∷ gatesPart parts ∷ []) inputs-are
       ∙ ap₂ (λ (os gs : List (List ℕ)). inputNumbers (read .net) ∷ os ∷ gs ∷ []) outputs-are gates-are
 
   module _ (q : h .highest ≡ freeOf h + h .gates) where
@@ -178,7 +182,7 @@ module _ (h : Header) (parts : List (List (List ℕ))) (c : Cut h parts) where
       sinks-within = λ j l.
           let m : j < h .outputs = omega (arith, outputs-count) in
           rw (getD-singles outputAt (h .outputs) j 0 m)
-          (omega (arith, output-kept (getD (getD parts 1 []) j []) h (output j m), size-read));
+          (omega (arith, output-kept (getD (outputsPart parts) j []) h (output j m), size-read));
     }
 
 -- what is read from lines that fit, where the header's counts add up and there are no latches
@@ -186,24 +190,24 @@ module _ (h : Header) (nss : List (List ℕ)) (f : Fits (linesNeeded h) nss) whe
   abbrev parts : List (List (List ℕ))
   parts = partsOf (sections h) nss
 
-  cut-read : Cut h parts
+  sections-read : InSections h parts
   unfolding linesNeeded
-  cut-read = cut-of h parts (parts-fit (sections h) nss f)
+  sections-read = in-sections h parts (parts-fit (sections h) nss f)
 
-  read-is : graphRead h nss ≡ read h parts cut-read
+  read-is : graphRead h nss ≡ read h parts sections-read
   unfolding graphRead
-  read-is = graph-is h parts cut-read
+  read-is = graph-is h parts sections-read
 
   pub swapsRead : ℕ → Bool
-  swapsRead = swap h parts cut-read
+  swapsRead = swap h parts sections-read
 
   pub lines-of-read : nss ≡ linesOf (graphRead h nss) swapsRead
   unfolding linesNeeded swapsRead
-  lines-of-read = rw read-is (sym (parts-joined (sections h) nss f) ∙ ap joined (parts-read h parts cut-read))
+  lines-of-read = rw read-is (sym (parts-joined (sections h) nss f) ∙ ap joined (parts-read h parts sections-read))
 
   pub read-lawful : h .highest ≡ freeOf h + h .gates → Lawful (graphRead h nss)
-  read-lawful q = rw read-is (lawful-read h parts cut-read q)
+  read-lawful q = rw read-is (lawful-read h parts sections-read q)
 
   pub read-counts : h .highest ≡ freeOf h + h .gates → h .latches ≡ 0
       → counts (graphRead h nss) ≡ h .highest ∷ h .inputs ∷ h .latches ∷ h .outputs ∷ h .gates ∷ []
-  read-counts q z = rw (read-is, size-read h parts cut-read, outputs-count h parts cut-read, q, z)
+  read-counts q z = rw (read-is, size-read h parts sections-read, outputs-count h parts sections-read, q, z)

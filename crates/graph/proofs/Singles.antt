@@ -1,4 +1,4 @@
--- Lists made of single elements, and lists joined and cut again.
+-- Lists made of single elements, and lists joined and parted again.
 -- Assumes nothing.
 use mathlib.Core.Path.{_≡_, refl, sym, ap, ap₂, _∙_}
 use mathlib.Core.List.{List, [], _∷_, _++_, append-assoc, append-nil, map, flatMap}
@@ -6,7 +6,7 @@ use Prim.Native.Nat.{ℕ, zero, suc, _+_, _*_, _<_}
 use native.Mathlib.Omega.{arith}
 use lib.ListN.{length, getD}
 use lib.Seq.{take-at, drop-at, ext-getD}
-use Rattle.graph.specs.Lists.{gather, joined, cut}
+use Rattle.graph.specs.Lists.{gather, joined, parted}
 use Rattle.graph.proofs.Gather.{length-gather, getD-gather}
 
 module _ {A : Type 0} where
@@ -27,13 +27,13 @@ module _ {A : Type 0} where
       ext-getD d xs (singles (λ k. getD xs k d) n) (q ∙ sym (length-singles (λ k. getD xs k d) n))
       (λ i h. sym (getD-singles (λ k. getD xs k d) n i d (omega arith)))
 
-  -- lists that are joined are cut at their lengths again
-  pub cut-joined : (xss : List (List A)) → cut (map length xss) (joined xss) ≡ xss
-  unfolding cut joined
-  cut-joined [] = refl
-  cut-joined (xs ∷ xss) = ap₂ (λ (ys : List A) (yss : List (List A)). ys ∷ yss)
+  -- lists that are joined are parted at their lengths again
+  pub parted-joined : (xss : List (List A)) → parted (map length xss) (joined xss) ≡ xss
+  unfolding parted joined
+  parted-joined [] = refl
+  parted-joined (xs ∷ xss) = ap₂ (λ (ys : List A) (yss : List (List A)). ys ∷ yss)
       (take-at xs (joined xss) (length xs) refl)
-      (ap (cut (map length xss)) (drop-at xs (joined xss) (length xs) refl) ∙ cut-joined xss)
+      (ap (parted (map length xss)) (drop-at xs (joined xss) (length xs) refl) ∙ parted-joined xss)
 
 -- what a function makes of each, joined
 module _ {A B : Type 0} (F : A → List B) where

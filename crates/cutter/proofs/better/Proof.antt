@@ -1,11 +1,11 @@
--- `cutter::smaller` meets its contract: the branches are those of the definition.
+-- `cutter::better` meets its contract: the branches are those of the definition.
 -- Assumes nothing.
 use mathlib.Core.Path.{_≡_}
 use mathlib.Core.Bool.{true}
 use borrow.Author.Tests.{not-true, not-false, le-leb, lt-leb}
 use Rattle.cutter.specs.Picking.{better}
-use Rattle.cutter.proofs.smaller.Statement.{statement}
-use Rattle.cutter.proofs.smaller.Tie as tie
+use Rattle.cutter.proofs.better.Statement.{statement}
+use Rattle.cutter.proofs.better.Tie as tie
 
 next-fits : (c : tie.Else1) → c .before .before .args .next .fits ≡ true
 next-fits c = not-false _ (c .if1 .left)
@@ -29,5 +29,5 @@ returns-4 : tie.Need-returns-4
 unfolding better
 returns-4 c = let e = c .before .before .before in rw (next-fits (e .before .before), best-fits e, lt-leb _ _ (c .if3 .left))
 
-pub smaller-spec : {M : Type 1} → statement M
-smaller-spec = tie.close (tie.spec returns returns-2 returns-3 returns-4)
+pub better-spec : {M : Type 1} → statement M
+better-spec = tie.close (tie.spec returns returns-2 returns-3 returns-4)
