@@ -59,14 +59,17 @@ plain-requires c κs = omega arith
 slice-aggregate-put-line : tie.Need-slice-aggregate-put-line Inv-loop μ-loop
 slice-aggregate-put-line c = refl
 
+-- the turn, and the literal that the gate has in it
+abbrev turn : tie.After-plain Inv-loop μ-loop → tie.In-loop Inv-loop μ-loop
+turn p = p .before .before .before
+
+own-is : (p : tie.After-plain Inv-loop μ-loop)
+    → p .plain .result .0 ≡ 2 * suc (turn p .before .before .before .before .args .inputs + turn p .before .loop .k)
+own-is p = omega arith
+
 put-line-requires : tie.Need-put-line-requires Inv-loop μ-loop
 put-line-requires c κs =
-    let plain = c .before .before in
-    let turn = plain .before .before .before in
-    let l = turn .before .loop in
-    let a = turn .before .before .before .before .args in
-    let e : plain .plain .result .0 ≡ 2 * suc (a .inputs + l .k) = omega arith in
-    rw e (piece-room (l .inv) (turn .loop-test .taken))
+    let p = c .before .before in rw (own-is p) (piece-room (turn p .before .loop .inv) (turn p .loop-test .taken))
 
 add-k : tie.Need-add-k Inv-loop μ-loop
 add-k c = omega arith
@@ -77,12 +80,8 @@ loop-less c = omega arith
 loop-again : tie.Need-loop-again Inv-loop μ-loop
 loop-again c =
     let put = c .before .before in
-    let plain = put .before .before .before in
-    let turn = plain .before .before .before in
-    let l = turn .before .loop in
-    let a = turn .before .before .before .before .args in
-    let e : plain .plain .result .0 ≡ 2 * suc (a .inputs + l .k) = omega arith in
-    piece-then (l .inv) (turn .loop-test .taken) (rw e at (put .put-line .ensures))
+    let p = put .before .before .before in
+    piece-then (turn p .before .loop .inv) (turn p .loop-test .taken) (rw (own-is p) at (put .put-line .ensures))
 
 same-length : tie.Need-same-length Inv-loop μ-loop
 same-length c = pieces-length (c .before .loop .inv)
