@@ -16,7 +16,7 @@ use Rattle.graph.specs.declared.verdict.Verdict.{Verdict}
 use Rattle.text.specs.Number.{Front}
 use Rattle.text.specs.Line.{lineOf}
 use Rattle.text.specs.Reading.{Needed}
-use Rattle.reader.specs.Sections.{lineRefusal}
+use Rattle.scanner.specs.Lines.{lineRefusal}
 use Rattle.reader.specs.Sections.{Words, wrong, words, withWords, readWords}
 use Rattle.graph.specs.Refuse.{verdictIs}
 use Rattle.graph.proofs.Singles.{singles}

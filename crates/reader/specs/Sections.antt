@@ -3,9 +3,9 @@
 -- Assumes nothing.
 use Prim.Native.Nat.{ℕ, _+_, _≤_}
 use mathlib.Core.Path.{_≡_}
-use mathlib.Core.Bool.{Bool, true, false, cond}
+use mathlib.Core.Bool.{true, false}
 use mathlib.Core.List.{List, [], _∷_, _++_}
-use mathlib.Core.Option.{Option, none, some}
+use mathlib.Core.Option.{none, some}
 use lib.ListN.{getD, drop}
 use Rattle.graph.specs.declared.refusal.Refusal.{Refusal}
 use Rattle.graph.specs.declared.refusal.Refusal.the-variants.{BadLine, BadLiteral}
@@ -14,10 +14,6 @@ use Rattle.text.specs.declared.header.Header.{Header}
 use Rattle.reader.specs.declared.section.Section.{Section}
 use Rattle.text.specs.Line.{lineOf}
 use Rattle.text.specs.Reading.{freeOf, Needed}
-
--- why a line is refused: it is misshapen, or it breaks its rule
-unfoldable pub lineRefusal : Bool → Bool → Option Refusal
-lineRefusal found kept = cond found (cond kept none (some BadLiteral)) (some BadLine)
 
 -- what the lines need of a header that is not refused
 pub record Limited (h : Header) : Type 0 where

@@ -13,9 +13,9 @@ use crate::section::Section;
 use crate::section::read_gates;
 use crate::section::read_inputs;
 use crate::section::read_outputs;
-use crate::section::rest_is_skipped;
 use graph::Refusal;
 use graph::Verdict;
+use scanner::rest_is_skipped;
 use text::Header;
 use text::ReadText;
 

@@ -3,36 +3,22 @@ ghost use mathlib.Core.Path.{_≡_};
 ghost use mathlib.Core.List.{[]};
 ghost use Prim.Native.Nat.{_+_, _*_, _<_, _≤_};
 ghost use lib.ListN.{length, take, drop};
-ghost use Rattle.text.specs.States.{skipped};
 ghost use Rattle.text.specs.Reading.{gateNeeded, inputsNeeded, outputsNeeded, gatesNeeded, gateWords};
-ghost use Rattle.reader.specs.Sections.{lineRefusal, Limited, noWords, outputWords, readWords, sectionWords};
+ghost use Rattle.reader.specs.Sections.{Limited, noWords, outputWords, readWords, sectionWords};
 ghost use Rattle.graph.specs.Graph.{mostInputs, mostGates, largerFirst};
 ghost use Rattle.graph.specs.Lent.{laid};
-ghost use Rattle.graph.specs.Refuse.{verdictIs};
 use graph::Lit;
 use graph::Refusal;
 use graph::Var;
 use graph::Verdict;
 use scanner::line_of;
+use scanner::line_verdict;
 use text::Header;
 
 // Where a section ends, or why its first wrong line is refused.
 pub enum Section {
     Ends(usize),
     Wrong(Refusal),
-}
-
-// A misshapen line is a bad line, one that breaks its rule a bad literal.
-fn line_verdict(found: bool, kept: bool) -> Verdict
-    ensures { λ r. ⌜ verdictIs r ≡ lineRefusal found kept ⌝ }
-{
-    if !found {
-        return Verdict::Refused(Refusal::BadLine);
-    }
-    if !kept {
-        return Verdict::Refused(Refusal::BadLiteral);
-    }
-    Verdict::Fine
 }
 
 // Input line k is 2k.
@@ -134,21 +120,4 @@ pub(crate) fn read_gates(text: &[u8], at: usize, header: Header, words: &mut [u3
         k += 1;
     }
     Section::Ends(next)
-}
-
-// That the rest is empty, or starts with `i`, `o` or `c`.
-pub(crate) fn rest_is_skipped(text: &[u8], at: usize) -> bool
-    ensures { λ r. ⌜ r ≡ skipped (drop at (now (text .entry))) ⌝ }
-{
-    if text.len() <= at {
-        return true;
-    }
-    let byte = text[at];
-    if byte == b'i' {
-        return true;
-    }
-    if byte == b'o' {
-        return true;
-    }
-    byte == b'c'
 }

@@ -1,9 +1,12 @@
 // Lines of numbers: one space between, one line feed at the end.
 ghost use mathlib.Core.Path.{_≡_};
 ghost use lib.ListN.{length, drop};
+ghost use Rattle.graph.specs.Refuse.{verdictIs};
 ghost use Rattle.text.specs.Line.{lineOf};
-ghost use Rattle.scanner.specs.Lines.{lineStep};
+ghost use Rattle.scanner.specs.Lines.{lineStep, lineRefusal};
 use crate::text_reader::TextReader;
+use graph::Refusal;
+use graph::Verdict;
 
 // That a line of numbers stands at a place, and the place after it.
 pub struct LineStep {
@@ -40,4 +43,17 @@ pub fn line_of(text: &[u8], at: usize, numbers: &mut [u32]) -> LineStep
         found: k == numbers.len(),
         next: reader.at,
     }
+}
+
+// A misshapen line is a bad line, one that breaks its rule a bad literal.
+pub fn line_verdict(found: bool, kept: bool) -> Verdict
+    ensures { λ r. ⌜ verdictIs r ≡ lineRefusal found kept ⌝ }
+{
+    if !found {
+        return Verdict::Refused(Refusal::BadLine);
+    }
+    if !kept {
+        return Verdict::Refused(Refusal::BadLiteral);
+    }
+    Verdict::Fine
 }

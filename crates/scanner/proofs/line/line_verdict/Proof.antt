@@ -1,10 +1,10 @@
--- `reader::section::line_verdict` meets its contract: the shape is tested first, then the rule.
+-- `scanner::line::line_verdict` meets its contract: the shape is tested first, then the rule.
 -- Assumes nothing.
 use borrow.Author.Tests.{not-true, not-false}
 use Rattle.graph.specs.Refuse.{verdictIs}
-use Rattle.reader.specs.Sections.{lineRefusal}
-use Rattle.reader.proofs.section.line_verdict.Statement.{statement}
-use Rattle.reader.proofs.section.line_verdict.Tie as tie
+use Rattle.scanner.specs.Lines.{lineRefusal}
+use Rattle.scanner.proofs.line.line_verdict.Statement.{statement}
+use Rattle.scanner.proofs.line.line_verdict.Tie as tie
 
 returns : tie.Need-returns
 unfolding verdictIs lineRefusal

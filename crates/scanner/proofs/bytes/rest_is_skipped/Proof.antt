@@ -1,4 +1,4 @@
--- `reader::section::rest_is_skipped` meets its contract: it tests the rest's first byte, if there is one, for each letter in turn.
+-- `scanner::bytes::rest_is_skipped` meets its contract: it tests the rest's first byte, if there is one, for each letter in turn.
 -- Assumes nothing.
 use mathlib.Core.Path.{_≡_, ap}
 use mathlib.Core.Bool.{or-false}
@@ -9,8 +9,8 @@ use lib.ListN.{getD, drop, drop-of-length-le}
 use lib.Seq.{drop-cons}
 use Rattle.graph.specs.Lists.{isIn}
 use Rattle.text.specs.States.{restLetters, skipped}
-use Rattle.reader.proofs.section.rest_is_skipped.Statement.{statement}
-use Rattle.reader.proofs.section.rest_is_skipped.Tie as tie
+use Rattle.scanner.proofs.bytes.rest_is_skipped.Statement.{statement}
+use Rattle.scanner.proofs.bytes.rest_is_skipped.Tie as tie
 
 returns : tie.Need-returns
 unfolding skipped
