@@ -1,10 +1,9 @@
 -- P1 to P12: the definitions give what document 01 says, row by row, by computation.
 -- Assumes nothing.
-use mathlib.Core.Path.{_≡_, refl}
-use mathlib.Core.Bool.{true}
-use Rattle.promises.specs.Calls.{agree}
+use mathlib.Core.Path.{refl}
+use Rattle.promises.specs.Calls.{Agrees}
 use Rattle.promises.specs.Bench.{bench}
 
-pub bench-agrees : agree bench ≡ true
-unfolding agree bench
+pub bench-agrees : Agrees bench
+unfolding bench
 bench-agrees = refl

@@ -1,9 +1,8 @@
 -- Every call as a list of numbers: what it answers, and then each lent word as it is afterwards.
 -- Assumes nothing.
 use Prim.Native.Nat.{ℕ}
-use mathlib.Core.Bool.{Bool, true, false, _&&_}
-use mathlib.Core.List.{List, [], _∷_, _++_}
-use lib.Dec.{eqb}
+use mathlib.Core.Path.{_≡_}
+use mathlib.Core.List.{List, [], _∷_, _++_, map}
 use lib.ListN.{replicate}
 use Rattle.graph.specs.Refuse.{Outcome}
 use Rattle.graph.specs.Graph.{Graph}
@@ -87,13 +86,6 @@ infix 70 _gives_
 abbrev pub _gives_ : List ℕ → List ℕ → Example
 xs gives ys = record { given = xs; says = ys }
 
-unfoldable pub same : List ℕ → List ℕ → Bool
-same [] [] = true
-same [] (y ∷ ys) = false
-same (x ∷ xs) [] = false
-same (x ∷ xs) (y ∷ ys) = eqb x y && same xs ys
-
-unfoldable pub agree : List Example → Bool
-unfolding same
-agree [] = true
-agree (r ∷ rs) = same (r .given) (r .says) && agree rs
+-- each row of a table gives what it should
+abbrev pub Agrees : List Example → Type 0
+Agrees rows = map (λ (e : Example). e .given) rows ≡ map (λ (e : Example). e .says) rows

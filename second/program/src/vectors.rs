@@ -14,12 +14,9 @@ const SEED: u64 = 1;
 
 const HEADER: &str = "\
 use mathlib.Core.Path.{_≡_, refl}
-use mathlib.Core.Bool.{true}
 use mathlib.Core.List.{[], _∷_}
 use Rattle.graph.specs.Graph.{graphOf}
 use Rattle.promises.specs.Calls.{
-  agree,
-  _gives_,
   buffers,
   readCall,
   writeCall,
@@ -59,10 +56,7 @@ fn print_row(number: usize, row: &Row, out: &mut dyn Write) -> io::Result<()> {
     } = row;
     let (arguments, says) = (arguments.join(" "), notation::list(says));
     writeln!(out)?;
-    writeln!(
-        out,
-        "row-{number} : agree (({call} {arguments}) gives {says} ∷ []) ≡ true"
-    )?;
-    writeln!(out, "unfolding agree {call}")?;
+    writeln!(out, "row-{number} : {call} {arguments} ≡ {says}")?;
+    writeln!(out, "unfolding {call}")?;
     writeln!(out, "row-{number} = refl")
 }

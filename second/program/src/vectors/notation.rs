@@ -23,7 +23,11 @@ pub fn graph(graph: &Graph) -> String {
 }
 
 pub fn leaves(leaves: &Leaves) -> String {
-    let places = list(&leaves.places.map(|place| format!("record {{ 0 = {place} }}")));
+    let places = list(
+        &leaves
+            .places
+            .map(|place| format!("record {{ 0 = {place} }}")),
+    );
     format!("(record {{ count = {}; places = {places} }})", leaves.count)
 }
 
