@@ -9,7 +9,7 @@ use lib.ListN.{length, getD, length-map}
 use lib.Seq.{ext-getD}
 use Rattle.graph.specs.Literal.{varOf}
 use Rattle.graph.specs.Graph.{Net, Graph, netOf, graphOf, free, size, last, sinks, first, second, IsGate, Lawful, WellFormed}
-use Rattle.graph.specs.Use.{Reached, as-output, as-first, as-second, marks, usedGates}
+use Rattle.graph.specs.Use.{Reached, InUse, as-output, as-first, as-second, marks, usedGates}
 use Rattle.graph.specs.Drop.{newNumber, renumbered, keptNet, dropped}
 use Rattle.graph.proofs.Members.{map-at}
 use Rattle.graph.proofs.Lists.{at-most-or-above, map-same}
@@ -167,6 +167,27 @@ module _ (g : Graph) (ok : Lawful g) where
   dropped-all-reached u i =
       let k = kept-of g u i in
       subst (Reached (dropped g)) (k .number-is-u) (reached-stays (k .old) (marked-reached g (k .old) (k .is-marked)))
+
+  -- ---- the gates in use stand in their order, and nothing else does
+
+  -- each under its new number, over its literals renumbered
+  pub dropped-gate : (v : ℕ) → InUse g v
+      → IsGate (dropped g .net) (number g v)
+      × (first (dropped g .net) (number g v) ≡ literal g (first (g .net) v))
+      × (second (dropped g .net) (number g v) ≡ literal g (second (g .net) v))
+  dropped-gate v used =
+      let i = used .is-gate in
+      let m = reached-marked g ok v (used .is-reached) in (new-gate g v i m, new-first g v i m, new-second g v i m)
+
+  -- each above all that it was above
+  pub dropped-keeps-order : (u v : ℕ) → u < v → InUse g v → number g u < number g v
+  dropped-keeps-order u v h used =
+      number-less (g .net) (marks g) u v h (used .is-gate .above) (reached-marked g ok v (used .is-reached))
+
+  pub dropped-only : (n : ℕ) → IsGate (dropped g .net) n → (v : ℕ) × InUse g v × (number g v ≡ n)
+  dropped-only n i =
+      let k = kept-of g n i in
+      (k .old, record { is-gate = k .is-gate; is-reached = marked-reached g (k .old) (k .is-marked) }, k .number-is-u)
 
   -- ---- a graph with all gates in use is left as it is
 

@@ -133,6 +133,10 @@ module _ {A : Type 0} (f : A → Bool) where
 
 -- ---- numbers filled up with 0
 
+pub filled-nothing : (n : ℕ) → filled n [] ≡ replicate n 0
+unfolding filled
+filled-nothing n = let all : n - 0 ≡ n = omega arith in ap (λ (k : ℕ). replicate k 0) all
+
 module _ (n : ℕ) (xs : List ℕ) where
   pub filled-first : take (length xs) (filled n xs) ≡ xs
   unfolding filled
