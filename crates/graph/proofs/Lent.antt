@@ -8,7 +8,7 @@ use native.Mathlib.Omega.{arith}
 use lib.ListN.{length, set, length-append, length-set, getD, take, drop}
 use lib.Seq.{set-comm, sets, sets-eq, length-sets, length-take-le, take-at, paste, paste-suc}
 use Rattle.graph.specs.Lists.{gather}
-use Rattle.graph.specs.Lent.{written, laid, short, Buffers, noRoomFor, NoRoomFor, few-gate-words, few-output-words}
+use Rattle.graph.specs.Lent.{written, laid, short, Buffers, noRoomFor, NoRoomFor, few-gate-words, few-output-words, RoomFor}
 use Rattle.graph.proofs.Gather.{gather-more}
 use Rattle.graph.specs.Graph.{largerFirst, Graph}
 use mathlib.Core.Bool.{true, false}
@@ -32,19 +32,22 @@ no-room-iff g b =
     sides (few-gate-words h) = inl h
     sides (few-output-words h) = inr h
 
-pub room-for : (g : Graph) (b : Buffers) → length (g .net .gates) ≤ length (b .gates) → length (g .outputs) ≤ length (b .outputs)
-    → noRoomFor g b ≡ false
-unfolding noRoomFor short
-room-for g b gates-fit outputs-fit = rw (le-ltb _ _ gates-fit, le-ltb _ _ outputs-fit)
-
-pub room-places : (g : Graph) (b : Buffers) → noRoomFor g b ≡ false
-    → (length (g .net .gates) ≤ length (b .gates)) × (length (g .outputs) ≤ length (b .outputs))
-room-places g b e =
-    let enough = test-off _ (no-room-iff g b) e in
-    (not-below _ _ (λ h. enough (few-gate-words h)), not-below _ _ (λ h. enough (few-output-words h)))
+pub room-iff : (g : Graph) (b : Buffers) → (noRoomFor g b ≡ false) ↔ RoomFor g b
+room-iff g b = (
+  λ e.
+      let enough = test-off _ (no-room-iff g b) e in
+      record {
+        gates-fit = not-below _ _ (λ h. enough (few-gate-words h));
+        outputs-fit = not-below _ _ (λ h. enough (few-output-words h));
+      },
+  λ room. unfold noRoomFor short in rw (le-ltb _ _ (room .gates-fit), le-ltb _ _ (room .outputs-fit)),
+)
   where
     not-below : (m n : ℕ) → ¬ (m < n) → n ≤ m
     not-below m n f = omega arith
+
+pub room-or-none : (g : Graph) (b : Buffers) → RoomFor g b → ¬ NoRoomFor g b
+room-or-none g b room = test-off _ (no-room-iff g b) (room-iff g b .1 room)
 
 -- ---- laid is stored element by element
 

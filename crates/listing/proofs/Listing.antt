@@ -8,18 +8,29 @@ use Prim.Native.Nat.{ℕ, _≤_}
 use borrow.Author.Tests.{ltb-true, lt-ltb, eqb-true, eq-eqb}
 use lib.IntN.{ℤ, pos, negsuc, natAbs}
 use Rattle.graph.specs.Lists.{_∈_, here, keep}
-use Rattle.graph.specs.Graph.{Graph}
+use Rattle.graph.specs.Graph.{Graph, IsGate, Lawful}
 use Rattle.graph.proofs.Members.{none-in, in-same, in-keep, keep-from, map-from, in-map}
 use Rattle.graph.proofs.Lists.{and-left, and-right, and-both}
 use Rattle.window.specs.declared.leaf_set.Leaves.{Leaves}
 use Rattle.window.specs.Table.{sameTable}
 use Rattle.replacement.specs.declared.types.Proposal.{Proposal}
-use Rattle.replacement.specs.Proposal.{allowed}
+use Rattle.replacement.specs.Proposal.{allowed, RuleKept}
 use Rattle.replacement.specs.Rewire.{gain, atLeastOne}
 use Rattle.replacement.specs.Calls.{equalTables}
-use Rattle.replacement.proofs.Proposal.{allowed-iff}
+use Rattle.replacement.proofs.Proposal.{allowed-iff, rule-iff}
 use Rattle.listing.specs.declared.Candidate.{Candidate}
-use Rattle.listing.specs.Listing.{candidates, good, candidateOf, listed, proposalOf, GoodRecord, Before, IsTheList}
+use Rattle.listing.specs.Listing.{
+  candidates,
+  good,
+  candidateOf,
+  listed,
+  proposalOf,
+  Good,
+  GoodReplacement,
+  GoodRecord,
+  Before,
+  IsTheList,
+}
 use Rattle.graph.proofs.Each.{Each}
 use Rattle.listing.proofs.Sorted.{sorted-keep, sorted-map}
 use Rattle.listing.proofs.Order.{sorted-ascending, ascending-same}
@@ -77,15 +88,32 @@ module _ (g : Graph) (root : ℕ) (w : Leaves) where
 
 -- ---- the list
 
-pub listed-is : (g : Graph) (root : ℕ) (w : Leaves) → IsTheList g root w (listed g root w)
+pub listed-is : (g : Graph) (root : ℕ) (w : Leaves) → IsTheList (GoodRecord g root w) (listed g root w)
 unfolding listed
 listed-is g root w = record {
   holds = λ x. (listed-good g root w x, good-listed g root w x);
   ascends = sorted-ascending (sorted-map Before (candidateOf g root) (sorted-keep _ (good g root w) (candidates-sorted g root)));
 }
 
-pub the-list : (g : Graph) (root : ℕ) (w : Leaves) (xs ys : List Candidate) → IsTheList g root w xs → IsTheList g root w ys → xs ≡ ys
-the-list g root w xs ys a b =
+-- at a gate the test of coverage and coverage itself come to the same
+module _ (g : Graph) (ok : Lawful g) (root : ℕ) (gate : IsGate (g .net) root) (w : Leaves) where
+  pub good-iff : (x : Candidate) → GoodRecord g root w x ↔ GoodReplacement g root w x
+  good-iff x = (λ r. by (rule-iff g ok root gate w (proposalOf x) .0) r, λ r. by (rule-iff g ok root gate w (proposalOf x) .1) r)
+    where
+      by : {C D : ℕ → Type 0} → (RuleKept C root (proposalOf x) → RuleKept D root (proposalOf x)) → Good C g root w x → Good D g root w x
+      by rule r =
+          record { keeps-rule = rule (r .keeps-rule); equals = r .equals; gain-is = r .gain-is; at-least-one = r .at-least-one }
+
+  pub listed-is-every-good : IsTheList (GoodReplacement g root w) (listed g root w)
+  listed-is-every-good =
+      let list = listed-is g root w in
+      record {
+        holds = λ x. (λ m. good-iff x .0 (list .holds x .0 m), λ r. list .holds x .1 (good-iff x .1 r));
+        ascends = list .ascends;
+      }
+
+pub the-list : {IsGood : Candidate → Type 0} (xs ys : List Candidate) → IsTheList IsGood xs → IsTheList IsGood ys → xs ≡ ys
+the-list xs ys a b =
     ascending-same xs ys (a .ascends) (b .ascends)
     (λ x. (λ m. (b .holds x) .1 ((a .holds x) .0 m), λ m. (a .holds x) .1 ((b .holds x) .0 m)))
 

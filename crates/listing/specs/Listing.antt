@@ -10,8 +10,9 @@ use Rattle.graph.specs.Lists.{gather, keep, _∈_}
 use Rattle.graph.specs.Graph.{Graph}
 use Rattle.window.specs.declared.leaf_set.Leaves.{Leaves}
 use Rattle.replacement.specs.declared.types.Proposal.{Proposal}
+use Rattle.window.specs.Local.{Covered, Tested}
 use Rattle.window.specs.Table.{table}
-use Rattle.replacement.specs.Proposal.{literal, andGate, allowed, Allowed, proposedTable}
+use Rattle.replacement.specs.Proposal.{literal, andGate, allowed, RuleKept, proposedTable}
 use Rattle.replacement.specs.Rewire.{gain, atLeastOne}
 use Rattle.replacement.specs.Calls.{equalTables}
 use Rattle.listing.specs.declared.Candidate.{Candidate}
@@ -50,12 +51,20 @@ fields (x ∷ xs) = x .kind ∷ x .first ∷ x .second ∷ x .turned ∷ x .gain
 
 -- ---- what the list must be
 
--- a good replacement with its gain
-pub record GoodRecord (g : Graph) (root : ℕ) (w : Leaves) (x : Candidate) : Type 0 where
-  pub keeps-rule : Allowed (g .net) root w (proposalOf x)
+-- a good replacement with its gain, where Cov says which variables are covered
+pub record Good (Cov : ℕ → Type 0) (g : Graph) (root : ℕ) (w : Leaves) (x : Candidate) : Type 0 where
+  pub keeps-rule : RuleKept Cov root (proposalOf x)
   pub equals : proposedTable (g .net) root w (proposalOf x) ≡ table (g .net) w root
   pub gain-is : gain g root (proposalOf x) ≡ pos (x .gain)
   pub at-least-one : 1 ≤ x .gain
+
+-- by coverage itself: what document 01 calls good
+abbrev pub GoodReplacement : Graph → ℕ → Leaves → Candidate → Type 0
+GoodReplacement g root w x = Good (Covered (g .net) w) g root w x
+
+-- by the test of coverage, which answers for any graph, root and leaves; at a gate of a lawful graph the same (`good-iff`)
+abbrev pub GoodRecord : Graph → ℕ → Leaves → Candidate → Type 0
+GoodRecord g root w x = Good (Tested (g .net) w) g root w x
 
 -- numbers compared one after another: the first that differ decide
 pub data Less : List ℕ → List ℕ → Type 0 where
@@ -75,7 +84,7 @@ pub data Ascending : List Candidate → Type 0 where
   none-left : Ascending []
   then-more : {x : Candidate} {xs : List Candidate} → ((y : Candidate) → y ∈ xs → Before x y) → Ascending xs → Ascending (x ∷ xs)
 
--- xs holds every good replacement, nothing else, each once, in order
-pub record IsTheList (g : Graph) (root : ℕ) (w : Leaves) (xs : List Candidate) : Type 0 where
-  pub holds : (x : Candidate) → (x ∈ xs) ↔ GoodRecord g root w x
+-- xs holds every record that is good, nothing else, each once, in order
+pub record IsTheList (IsGood : Candidate → Type 0) (xs : List Candidate) : Type 0 where
+  pub holds : (x : Candidate) → (x ∈ xs) ↔ IsGood x
   pub ascends : Ascending xs

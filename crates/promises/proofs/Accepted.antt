@@ -2,7 +2,7 @@
 -- Assumes nothing.
 use mathlib.Core.Path.{_≡_, refl, sym, ap, _∙_}
 use mathlib.Core.Bool.{Bool, true, false, false≢true, cond}
-use mathlib.Core.List.{List, [], map}
+use mathlib.Core.List.{List, map}
 use mathlib.Core.Logic.{_↔_}
 use mathlib.Core.Option.{Option, none, some}
 use Prim.Native.Nat.{ℕ, _-_, _≤_, _<_}
@@ -13,7 +13,6 @@ use Rattle.graph.specs.declared.refusal.Refusal.the-variants.{BadGraph, BadRoot
 use Rattle.graph.specs.declared.evaluated.Evaluated.the-variants.{Outputs}
 use Rattle.graph.specs.declared.verdict.Verdict.{Verdict}
 use Rattle.graph.specs.Refuse.{firstRefusal, verdictOutcome}
-use Rattle.graph.specs.Lists.{filled}
 use Rattle.graph.specs.Lent.{short, Buffers, noRoomFor, storedIn}
 use Rattle.graph.specs.Graph.{Graph, size, sinks, WellFormed}
 use Rattle.graph.specs.Use.{usedGates}
@@ -32,30 +31,29 @@ use Rattle.text.proofs.Reading.{reading-iff, reads-graph}
 use Rattle.text.proofs.Refusals.{write-answers}
 use Rattle.text.proofs.RoundTrip.{round-trip}
 use Rattle.window.specs.declared.leaf_set.Leaves.{Leaves}
-use Rattle.window.specs.Leaves.{WellSet}
-use Rattle.window.specs.Local.{Covered}
 use Rattle.window.specs.Table.{table}
 use Rattle.window.specs.LeafRule.{picked}
-use Rattle.window.specs.Calls.{RootGiven, rootRefusals, pickAnswer, pickOutcome, windowRefusals, tableAnswer, tableOutcome}
-use Rattle.window.proofs.Calls.{pick-answers}
+use Rattle.window.specs.Calls.{RootGiven, rootRefusals, pickAnswer, pickOutcome, windowRefusals, Window, tableAnswer, tableOutcome}
+use Rattle.window.proofs.Calls.{pick-answers, window-accepted}
 use Rattle.window.proofs.LeafRule.{picked-well-set, picked-cuts}
 use Rattle.replacement.specs.declared.types.Proposal.{Proposal}
 use Rattle.replacement.specs.declared.types.Applied.{Applied}
 use Rattle.replacement.specs.Rewire.{finished}
-use Rattle.replacement.specs.Calls.{applyEffect, appliedOutcome}
-use Rattle.replacement.proofs.Calls.{apply-none-given}
+use Rattle.replacement.specs.Calls.{GoodProposal, applyEffect, appliedOutcome}
+use Rattle.replacement.proofs.Calls.{apply-none-given, apply-accepted}
 use Rattle.listing.specs.declared.Candidate.{Candidate}
 use Rattle.listing.specs.declared.Listed.{Listed}
-use Rattle.listing.specs.Listing.{listed, IsTheList}
+use Rattle.listing.specs.Listing.{listed, GoodReplacement, IsTheList}
 use Rattle.listing.specs.Calls.{withList, listEffect, listedOutcome}
-use Rattle.listing.proofs.Listing.{listed-is}
+use Rattle.listing.proofs.Listing.{listed-is-every-good}
 use Rattle.run.specs.declared.Ran.{Ran}
 use Rattle.run.specs.Run.{run}
-use Rattle.run.specs.Calls.{RunBuffers, RunGiven, runRefusals, filledIn, runEffect, ranOutcome}
+use Rattle.run.specs.Calls.{RunBuffers, RunGiven, filledIn, runEffect, ranOutcome}
 use Rattle.run.proofs.Run.{run-well-formed, run-no-larger}
-use Rattle.run.proofs.Calls.{run-answers}
-use Rattle.promises.specs.Promises.{Keeps, Stored, Holds}
-use Rattle.promises.proofs.Meaning.{run-keeps, replacement-keeps, replacement-saves-gates}
+use Rattle.run.proofs.Calls.{run-answers, run-none-given, run-clears-work}
+use Rattle.promises.specs.Promises.{Keeps, NoneLeft, Stored, Holds, RunHolds}
+use Rattle.promises.proofs.Meaning.{run-keeps, replacement-keeps}
+use Rattle.promises.proofs.Search.{run-ends-with-none-left}
 use Rattle.promises.proofs.Stored.{stored-written, holds-stored, filled-all}
 
 -- what a test decides holds where its denial is refused
@@ -140,15 +138,18 @@ module _ (g : Graph) (root : ℕ) (accepted : (pickOutcome (pickAnswer g root)) 
   pick-none-given : (q : Refusal) → ¬ RootGiven g root q
   pick-none-given = pick-answers g root .accepts .0 accepted
 
+  -- the leaves that the rule picks make a window
   pub pick-answers-leaves :
-      ((pickAnswer g root) .leaves ≡ picked (g .net) root)
-      × WellSet root ((pickAnswer g root) .leaves)
-      × Covered (g .net) ((pickAnswer g root) .leaves) root
+      (pickAnswer g root ≡ record { verdict = Verdict.Fine; leaves = picked (g .net) root }) × Window g root (picked (g .net) root)
   unfolding pickAnswer
   pick-answers-leaves =
-      let law = decided _ (well-formed-iff g) (λ n. pick-none-given BadGraph (RootGiven.bad-graph n)) .lawful in
-      let gate = decided _ (in-use-iff g law root) (λ n. pick-none-given BadRoot (RootGiven.bad-root n)) .is-gate in
-      rw (pick-none, pickAnswer) (refl, picked-well-set g law root gate, picked-cuts g law root gate)
+      let ok = decided _ (well-formed-iff g) (λ n. pick-none-given BadGraph (RootGiven.bad-graph n)) in
+      let law = ok .lawful in
+      let used = decided _ (in-use-iff g law root) (λ n. pick-none-given BadRoot (RootGiven.bad-root n)) in
+      let gate = used .is-gate in (
+        rw (pick-none, pickAnswer),
+        record { graph = ok; root-used = used; leaves = picked-well-set g law root gate; cut = picked-cuts g law root gate },
+      )
 
 module _ (g : Graph) (root : ℕ) (w : Leaves) (accepted : (tableOutcome (tableAnswer g root w)) .number ≡ 0) where
   table-none : firstRefusal (windowRefusals g root w) ≡ none
@@ -176,25 +177,31 @@ module _ (g : Graph) (root : ℕ) (w : Leaves) (lent : List Candidate)
   pub list-stores-the-list :
       ((listEffect g root w lent) .answer ≡ Listed.Records (length (listed g root w)))
       × Stored (listed g root w) lent ((listEffect g root w lent) .lent)
-      × IsTheList g root w (listed g root w)
+      × IsTheList (GoodReplacement g root w) (listed g root w)
   unfolding listEffect withList
   list-stores-the-list =
-      let (e, h) = list-none in rw (e, listEffect, h, withList) (refl, stored-written (listed g root w) lent, listed-is g root w)
+      let (e, h) = list-none in
+      let known = window-accepted g root w e in
+      let list = listed-is-every-good g (known .graph .lawful) root (known .root-used .is-gate) w in
+      rw (e, listEffect, h, withList) (refl, stored-written (listed g root w) lent, list)
 
 -- ---- applying a proposal
 
 module _ (g : Graph) (root : ℕ) (w : Leaves) (p : Proposal) (b : Buffers)
     (accepted : (appliedOutcome ((applyEffect g root w p b) .answer)) .number ≡ 0) where
+  -- only a good proposal is accepted
   pub apply-stores-finished :
-      ((applyEffect g root w p b) .answer ≡ Applied.Graph (size (finished g root p .net)) (length (finished g root p .outputs)))
+      GoodProposal g root w p
+      × ((applyEffect g root w p b) .answer ≡ Applied.Graph (size (finished g root p .net)) (length (finished g root p .outputs)))
       × Holds (finished g root p) b ((applyEffect g root w p b) .lent)
       × Keeps g (finished g root p)
       × (usedGates (finished g root p) < usedGates g)
   unfolding applyEffect
   apply-stores-finished =
-      let kept = replacement-keeps g root w p b accepted in
+      let good = apply-accepted g root w p b accepted in
+      let kept = replacement-keeps g root w p good in
       rw (apply-none-given g root w p b accepted, applyEffect)
-      (refl, holds-stored (finished g root p) b (kept .well-formed), kept, replacement-saves-gates g root w p b accepted)
+      (good, refl, holds-stored (finished g root p) b (kept .well-formed), kept, good .fewer)
 
 -- ---- the run
 
@@ -207,22 +214,30 @@ run-words-fit : (g : Graph) (ok : WellFormed g) → length (run g .graph .net .g
 run-words-fit g ok = omega (arith, run-no-larger g ok, ok .lawful .even, run-well-formed g ok .lawful .even)
 
 module _ (g : Graph) (b : RunBuffers) (accepted : (ranOutcome ((runEffect g b) .answer)) .number ≡ 0) where
-  run-none : firstRefusal (runRefusals g b) ≡ none
-  unfolding runEffect ranOutcome
-  run-none = none-shown (firstRefusal (runRefusals g b)) _ (λ q e. rw (e, runEffect)) accepted
+  ok : WellFormed g
+  ok = decided _ (well-formed-iff g) (λ n. run-answers g b .accepts .0 accepted BadGraph (RunGiven.bad-graph n))
 
-  -- the finished graph and then 0 in the source graph's places of the result, and 0 in those of the work area
+  result-is : (runEffect g b) .lent .result ≡ filledIn g (run g .graph) (b .result)
+  unfolding runEffect
+  result-is = rw (run-none-given g b accepted, runEffect)
+
+  run-stores : RunHolds g (run g .graph) b ((runEffect g b) .lent)
+  unfolding filledIn storedIn
+  run-stores = record {
+    no-more-words = run-words-fit g ok;
+    gates-stored = rw result-is (stored-written _ _);
+    outputs-stored =
+        let count = keeps-output-count (run-keeps g ok) in
+        rw (result-is, filled-all (length (g .outputs)) (run g .graph .outputs) count) (stored-written _ _);
+    work-gates-zero = rw (run-clears-work g b accepted) (stored-written _ _);
+    work-outputs-zero = rw (run-clears-work g b accepted) (stored-written _ _);
+  }
+
   pub run-stores-finished :
       ((runEffect g b) .answer ≡ Ran.Finished (size (run g .graph .net)) (run g .made))
-      × (length (run g .graph .net .gates) ≤ length (g .net .gates))
-      × Stored (filled (length (g .net .gates)) (run g .graph .net .gates)) (b .result .gates) ((runEffect g b) .lent .result .gates)
-      × Stored (run g .graph .outputs) (b .result .outputs) ((runEffect g b) .lent .result .outputs)
-      × Stored (filled (length (g .net .gates)) []) (b .work .gates) ((runEffect g b) .lent .work .gates)
-      × Stored (filled (length (g .outputs)) []) (b .work .outputs) ((runEffect g b) .lent .work .outputs)
+      × RunHolds g (run g .graph) b ((runEffect g b) .lent)
       × Keeps g (run g .graph)
-  unfolding runEffect filledIn storedIn
+      × NoneLeft (run g .graph)
+  unfolding runEffect
   run-stores-finished =
-      let ok = decided _ (well-formed-iff g) (λ n. run-answers g b .accepts .0 accepted BadGraph (RunGiven.bad-graph n)) in
-      let kept = run-keeps g ok in
-      rw (run-none, runEffect, filled-all (length (g .outputs)) (run g .graph .outputs) (keeps-output-count kept))
-      (refl, run-words-fit g ok, stored-written _ _, stored-written _ _, stored-written _ _, stored-written _ _, kept)
+      (rw (run-none-given g b accepted, runEffect), run-stores, run-keeps g ok, run-ends-with-none-left g ok)

@@ -1,25 +1,23 @@
 -- What meets a call's contract: one result alone. Of the calls on texts: just what a text states is read, and a graph that is written and
 -- read again is that graph.
 -- Assumes nothing.
-use mathlib.Core.Path.{_≡_, refl, sym, ap, _∙_, subst⁻¹}
+use mathlib.Core.Path.{_≡_, sym, ap, _∙_, subst⁻¹}
 use mathlib.Core.List.{List}
 use Prim.Native.Nat.{ℕ, _≤_}
 use native.Mathlib.Omega.{arith}
 use lib.ListN.{length, take, length-take}
 use Rattle.graph.specs.declared.refusal.Refusal.{Refusal}
 use Rattle.graph.specs.Graph.{Graph, size, WellFormed}
-use Rattle.graph.specs.Lent.{Buffers, Effect, _leaving_}
-use Rattle.graph.proofs.Lent.{room-for}
+use Rattle.graph.specs.Lent.{Buffers, RoomFor, Effect, _leaving_}
 use Rattle.text.specs.declared.ReadText.{ReadText}
 use Rattle.text.specs.declared.WrittenText.{WrittenText}
 use Rattle.text.specs.States.{textOf}
 use Rattle.text.specs.Reading.{yields, reading, Stated}
-use Rattle.text.specs.Refusals.{WriteGiven}
 use Rattle.text.specs.Calls.{readEffect, readOutcome, writeEffect, writtenOutcome}
-use Rattle.text.proofs.Reading.{reading-iff, reads-graph}
+use Rattle.text.proofs.Reading.{reading-iff}
 use Rattle.text.proofs.Refusals.{write-answers}
 use Rattle.promises.specs.Promises.{Holds, readBack}
-use Rattle.promises.proofs.Stored.{holds-stored}
+use Rattle.promises.proofs.Granted.{stated-text-is-read, writing-has-no-refusal}
 use Rattle.promises.proofs.Accepted.{read-stores-stated, write-stores-text, write-then-read}
 
 -- ---- one result
@@ -41,13 +39,13 @@ write-has-one-result g lent = one-effect
 -- r and after are what reading t with b lent came to
 module _ (t : List ℕ) (b after : Buffers) (r : ReadText) (met : r leaving after ≡ readEffect t b) where
   -- a text that states a graph within the limits is read as that graph, where there is room for it
-  module _ (g : Graph) (stated : Stated t g) (gates-fit : length (g .net .gates) ≤ length (b .gates))
-      (outputs-fit : length (g .outputs) ≤ length (b .outputs)) where
+  module _ (g : Graph) (stated : Stated t g) (room : RoomFor g b) where
     pub stated-is-read : (r ≡ ReadText.Graph (g .net .inputs) (size (g .net)) (length (g .outputs))) × Holds g b after
     stated-is-read =
-        let (answer, lent-after) =
-        one-effect _ _ _ _ (met ∙ reads-graph t b g (reading-iff t g .1 stated) (room-for g b gates-fit outputs-fit)) refl in
-        (answer, rw lent-after (holds-stored g b (stated .well-formed)))
+        let (answer, holds) = stated-text-is-read t b g stated room in (
+          ap (λ (e : Effect ReadText Buffers). e .answer) met ∙ answer,
+          subst⁻¹ (Holds g b) (ap (λ (e : Effect ReadText Buffers). e .lent) met) holds,
+        )
 
   -- and nothing else is read
   module _ (i a o : ℕ) (accepted : r ≡ ReadText.Graph i a o) where
@@ -93,8 +91,7 @@ module _ (g : Graph) (lent bytes : List ℕ) (n : ℕ) (written-now : WrittenTex
   read-back : reading (take n bytes) ≡ yields g
   read-back = rw (n-is, ap (λ (e : Effect WrittenText (List ℕ)). e .lent) written-now) (write-then-read g lent accepted)
 
-  pub written-and-read-again : (b after : Buffers) (r : ReadText) → r leaving after ≡ readEffect (take n bytes) b
-      → length (g .net .gates) ≤ length (b .gates) → length (g .outputs) ≤ length (b .outputs)
+  pub written-and-read-again : (b after : Buffers) (r : ReadText) → r leaving after ≡ readEffect (take n bytes) b → RoomFor g b
       → (r ≡ ReadText.Graph (g .net .inputs) (size (g .net)) (length (g .outputs))) × Holds g b after
   written-and-read-again b after r met = stated-is-read (take n bytes) b after r met g (reading-iff (take n bytes) g .0 read-back)
 
@@ -111,8 +108,4 @@ pub written-with-room : (g : Graph) (lent bytes : List ℕ) (q : Refusal) → Wr
 unfolding writtenOutcome
 written-with-room g lent bytes q refused-now ok fits =
     let refused = ap (λ (e : Effect WrittenText (List ℕ)). (writtenOutcome (e .answer)) .number) refused-now in
-    go (write-answers g lent .refuses q .0 (sym refused) .holds)
-  where
-    go : {r : Refusal} → WriteGiven g lent r → ⊥
-    go (WriteGiven.bad-graph h) = h ok
-    go (WriteGiven.no-room h) = omega arith
+    writing-has-no-refusal g lent ok fits q (write-answers g lent .refuses q .0 (sym refused) .holds)

@@ -5,4 +5,5 @@ pub mod Meaning
 pub mod Search
 pub mod Stored
 pub mod Accepted
+pub mod Granted
 pub mod Contracts

@@ -3,32 +3,50 @@
 use mathlib.Core.Path.{_≡_}
 use mathlib.Core.Bool.{Bool, true}
 use mathlib.Core.List.{List, [], _∷_}
-use Prim.Native.Nat.{ℕ, _<_}
+use mathlib.Core.Logic.{_↔_}
+use Prim.Native.Nat.{ℕ, _≤_, _<_}
 use lib.ListN.{length, getD}
 use Rattle.graph.specs.Lists.{_∈_}
-use Rattle.graph.specs.Graph.{Net, Graph, free, IsGate, WellFormed}
+use Rattle.graph.specs.Graph.{Net, Graph, free, last, IsGate, WellFormed}
 use Rattle.graph.specs.Drop.{dropped}
 use Rattle.graph.specs.Evaluate.{valueUnder}
 use Rattle.window.specs.declared.leaf_set.Leaves.{Leaves}
 use Rattle.window.specs.Leaves.{leafLimit, leafList, WellSet}
 use Rattle.window.specs.Local.{Covered, covered, localAt}
+use Rattle.window.specs.Table.{bit, patterns, table}
 use Rattle.window.specs.LeafRule.{withFanins, expand, ruleLeaves, picked, Follows}
-use Rattle.window.proofs.Local.{covered-value}
+use Rattle.window.proofs.Local.{covered-iff, covered-value}
+use Rattle.window.proofs.Table.{table-bit}
+use Rattle.window.proofs.Patterns.{equal-tables-equal-functions}
 use Rattle.window.proofs.LeafRule.{rule-follows, rule-only, picked-well-set, picked-cuts, picked-no-expansion}
 use Rattle.listing.specs.declared.Candidate.{Candidate}
-use Rattle.listing.specs.Listing.{listed, Ascending, IsTheList}
-use Rattle.listing.proofs.Listing.{listed-is, the-list}
+use Rattle.listing.specs.Listing.{listed, GoodReplacement, GoodRecord, Ascending, IsTheList}
+use Rattle.listing.proofs.Listing.{listed-is, good-iff, listed-is-every-good, the-list}
 use Rattle.listing.proofs.Order.{ascending-once}
-use Rattle.run.specs.Run.{run, NoneAt, Steps}
-use Rattle.run.proofs.Run.{run-steps, run-ends}
+use Rattle.run.specs.Run.{run, Steps}
+use Rattle.run.proofs.Run.{run-steps, run-ends, run-well-formed}
 use Rattle.run.proofs.Once.{run-only}
+use Rattle.promises.specs.Promises.{NoneLeft}
 
 -- ---- windows
 
--- what a covered variable computes locally is what it computes
-pub local-is-global : (net : Net) (w : Leaves) (a : ℕ → Bool) (v : ℕ) → covered net w v ≡ true
-    → valueUnder net a v ≡ localAt net w (λ j. valueUnder net a (getD (leafList w) j 0)) v
-local-is-global = covered-value
+module _ (g : Graph) (ok : WellFormed g) (w : Leaves) where
+  pub the-test-is-coverage : (v : ℕ) → v ≤ last (g .net) → (covered (g .net) w v ≡ true) ↔ Covered (g .net) w v
+  the-test-is-coverage = covered-iff g (ok .lawful) w
+
+  -- what a covered variable computes locally is what it computes
+  pub local-is-global : (v : ℕ) → v ≤ last (g .net) → Covered (g .net) w v → (a : ℕ → Bool)
+      → valueUnder (g .net) a v ≡ localAt (g .net) w (λ j. valueUnder (g .net) a (getD (leafList w) j 0)) v
+  local-is-global v within c a = covered-value (g .net) w a v (covered-iff g (ok .lawful) w v within .1 c)
+
+-- bit i of a table is the local function where leaf j has bit j of i
+pub a-table-has-every-pattern : (net : Net) (w : Leaves) (v i : ℕ) → i < patterns → bit (table net w v) i ≡ localAt net w (bit i) v
+a-table-has-every-pattern = table-bit
+
+-- so where whole tables are equal, the functions are, under every assignment of the leaves
+pub equal-tables-are-equal-functions : (net : Net) (w : Leaves) (u v : ℕ) → w .count ≤ leafLimit → table net w u ≡ table net w v
+    → (a : ℕ → Bool) → localAt net w a u ≡ localAt net w a v
+equal-tables-are-equal-functions net = equal-tables-equal-functions net net
 
 module _ (g : Graph) (ok : WellFormed g) (root : ℕ) (gate : IsGate (g .net) root) where
   -- the leaves are come to by taking the smallest expansion, ties to the highest variable, until there is none
@@ -51,13 +69,18 @@ module _ (g : Graph) (ok : WellFormed g) (root : ℕ) (gate : IsGate (g .net) ro
 
 -- ---- the list
 
-module _ (g : Graph) (root : ℕ) (w : Leaves) where
-  pub list-is-the-list : IsTheList g root w (listed g root w)
-  list-is-the-list = listed-is g root w
+-- for a gate of a well-formed graph: every good replacement, nothing else, each once, in order
+pub list-is-the-list : (g : Graph) → WellFormed g → (root : ℕ) → IsGate (g .net) root → (w : Leaves)
+    → IsTheList (GoodReplacement g root w) (listed g root w)
+list-is-the-list g ok root gate w = listed-is-every-good g (ok .lawful) root gate w
 
-  -- and there is no other
-  pub list-is-one : (xs ys : List Candidate) → IsTheList g root w xs → IsTheList g root w ys → xs ≡ ys
-  list-is-one = the-list g root w
+-- for any graph, root and leaves whatever, by the test of coverage
+pub list-is-what-passes : (g : Graph) (root : ℕ) (w : Leaves) → IsTheList (GoodRecord g root w) (listed g root w)
+list-is-what-passes = listed-is
+
+-- and there is no other
+pub list-is-one : {IsGood : Candidate → Type 0} (xs ys : List Candidate) → IsTheList IsGood xs → IsTheList IsGood ys → xs ≡ ys
+list-is-one = the-list
 
 pub nothing-is-listed-twice : {x : Candidate} {xs : List Candidate} → Ascending (x ∷ xs) → ¬ (x ∈ xs)
 nothing-is-listed-twice = ascending-once
@@ -73,5 +96,7 @@ module _ (g : Graph) (ok : WellFormed g) where
   pub run-is-one : (n : ℕ) (e : Graph) → Steps (dropped g) n e → (n ≡ run g .made) × (e ≡ run g .graph)
   run-is-one = run-only g ok
 
-  pub run-ends-with-none-left : (v : ℕ) → IsGate (run g .graph .net) v → NoneAt (run g .graph) v
-  run-ends-with-none-left = run-ends g ok
+  pub run-ends-with-none-left : NoneLeft (run g .graph)
+  run-ends-with-none-left v gate x good =
+      let h = run g .graph in
+      run-ends g ok v gate x (good-iff h (run-well-formed g ok .lawful) v gate (picked (h .net) v) x .1 good)

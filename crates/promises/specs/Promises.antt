@@ -4,10 +4,11 @@ use Prim.Native.Nat.{ℕ, _*_, _≤_, _<_}
 use mathlib.Core.Path.{_≡_}
 use mathlib.Core.Bool.{Bool}
 use mathlib.Core.List.{List}
-use lib.ListN.{length, take, drop}
+use lib.ListN.{length, take, drop, replicate}
 use Rattle.graph.specs.declared.refusal.Refusal.{Refusal}
 use Rattle.graph.specs.Refuse.{numberOf, Answers}
-use Rattle.graph.specs.Lent.{Buffers, Effect, _leaving_}
+use Rattle.graph.specs.Lists.{filled}
+use Rattle.graph.specs.Lent.{Buffers, RoomFor, Effect, _leaving_}
 use Rattle.graph.specs.Literal.{varOf}
 use Rattle.graph.specs.Graph.{Graph, size, first, second, IsGate, WellFormed}
 use Rattle.graph.specs.Evaluate.{outputsUnder}
@@ -16,13 +17,17 @@ use Rattle.text.specs.declared.ReadText.{ReadText}
 use Rattle.text.specs.declared.WrittenText.{WrittenText}
 use Rattle.text.specs.States.{textOf}
 use Rattle.text.specs.Calls.{readEffect}
+use Rattle.window.specs.LeafRule.{picked}
+use Rattle.listing.specs.declared.Candidate.{Candidate}
+use Rattle.listing.specs.Listing.{GoodReplacement}
+use Rattle.run.specs.Calls.{RunBuffers}
 
 -- demand 1: the call's number is the one that the order of refusals selects, and a refusal writes nothing into lent memory
 pub record Settled {L : Type 0} (rank : Refusal → ℕ) (given : Refusal → Type 0) (number : ℕ) (lent-before lent-after : L) : Type 0 where
   pub answers : Answers rank given number
   pub writes-nothing : (r : Refusal) → number ≡ numberOf r → lent-after ≡ lent-before
 
--- demand 2: the graph h in the place of g
+-- demand 2: the graph h in the place of g. What `outputsUnder` says is restated in `Meaning`, from `zero-is-false` on
 pub record Keeps (g h : Graph) : Type 0 where
   pub same-inputs : h .net .inputs ≡ g .net .inputs
   -- each output has its old value under every assignment
@@ -33,6 +38,10 @@ pub record Keeps (g h : Graph) : Type 0 where
   pub second-lower : (v : ℕ) → IsGate (h .net) v → varOf (second (h .net) v) < v
   -- and no gate is left that nothing needs
   pub all-in-use : (v : ℕ) → IsGate (h .net) v → InUse h v
+
+-- demand 3: no gate of h has a good replacement over the leaves that the rule picks
+abbrev pub NoneLeft : Graph → Type 0
+NoneLeft h = (v : ℕ) → IsGate (h .net) v → (x : Candidate) → ¬ GoodReplacement h v (picked (h .net) v) x
 
 -- ---- what an accepted call leaves in lent memory
 
@@ -47,6 +56,14 @@ pub record Holds (h : Graph) (before after : Buffers) : Type 0 where
   pub gates-stored : Stored (h .net .gates) (before .gates) (after .gates)
   pub outputs-stored : Stored (h .outputs) (before .outputs) (after .outputs)
 
+-- the lists lent to a run over g that came to h: of the places that g's words need, the first of the result hold h, and all others 0
+pub record RunHolds (g h : Graph) (before after : RunBuffers) : Type 0 where
+  pub no-more-words : length (h .net .gates) ≤ length (g .net .gates)
+  pub gates-stored : Stored (filled (length (g .net .gates)) (h .net .gates)) (before .result .gates) (after .result .gates)
+  pub outputs-stored : Stored (h .outputs) (before .result .outputs) (after .result .outputs)
+  pub work-gates-zero : Stored (replicate (length (g .net .gates)) 0) (before .work .gates) (after .work .gates)
+  pub work-outputs-zero : Stored (replicate (length (g .outputs)) 0) (before .work .outputs) (after .work .outputs)
+
 -- ---- calls in a row
 
 -- what was written is read into lent lists; where writing was refused, that is the answer
@@ -58,8 +75,7 @@ readBack w b =
 -- g was written into lent bytes and what was written read into lent lists: a well-formed g for which there is room comes back
 abbrev pub WrittenAgain : Graph → List ℕ → Buffers → ReadText → Buffers → Type 0
 WrittenAgain g bytes before r after =
-    WellFormed g → length (textOf g) ≤ length bytes → length (g .net .gates) ≤ length (before .gates)
-    → length (g .outputs) ≤ length (before .outputs)
+    WellFormed g → length (textOf g) ≤ length bytes → RoomFor g before
     → (r ≡ ReadText.Graph (g .net .inputs) (size (g .net)) (length (g .outputs))) × Holds g before after
 
 -- a call was made twice, each time on lent memory of its own: where both held the same before, the answers are the same, and both

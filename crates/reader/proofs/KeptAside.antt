@@ -11,7 +11,7 @@ use Rattle.graph.specs.declared.refusal.Refusal.{Refusal}
 use Rattle.graph.specs.declared.refusal.Refusal.the-variants.{NoRoom}
 use Rattle.graph.specs.Graph.{Graph, graphOf, mostGates, mostOutputs}
 use Rattle.graph.specs.Lent.{short, Buffers, buffersOf, noRoomFor, storedIn, _leaving_}
-use Rattle.graph.proofs.Lent.{room-places}
+use Rattle.graph.proofs.Lent.{room-iff}
 use Rattle.text.specs.declared.ReadText.{ReadText}
 use Rattle.text.specs.Reading.{yields, reading}
 use Rattle.text.specs.Calls.{withRoom, readEffect}
@@ -63,7 +63,7 @@ module _ {t gs os : List ℕ} {x : ReadText} (l : Aside t gs os x) where
 
         pub places-enough : r ≡ false → (2 * a ≤ length (b .gates)) × (o ≤ length (b .outputs))
         places-enough e =
-            let (h, k) = room-places graph b (room-is ∙ e) in (rw gates-count at h, rw outputs-count at k)
+            let room = room-iff graph b .0 (room-is ∙ e) in (rw gates-count at (room .gates-fit), rw outputs-count at (room .outputs-fit))
 
         pub room-enough : r ≡ false → ReadText.Graph i a o leaving storedIn graph b ≡ readEffect t b
         room-enough e =

@@ -30,13 +30,15 @@ use Rattle.graph.proofs.Tests.{denial-on, denial-off, test-off, eqb-iff}
 use Rattle.graph.proofs.Lent.{no-room-iff}
 use Rattle.window.specs.declared.leaf_set.Leaves.{Leaves}
 use Rattle.window.specs.Table.{table, sameTable}
-use Rattle.window.specs.Calls.{windowRefusals, WindowGiven, rootRefusals, by-root, bad-graph, bad-root}
-use Rattle.window.proofs.Calls.{Window, window-accepted, window-decides, window-at-most}
+use Rattle.window.specs.Local.{Covered}
+use Rattle.window.specs.Calls.{windowRefusals, Window, WindowGiven, rootRefusals, by-root, bad-graph, bad-root}
+use Rattle.window.proofs.Calls.{silent-window, window-accepted, window-decides, window-at-most}
 use Rattle.replacement.specs.declared.types.Proposal.{Proposal}
-use Rattle.replacement.specs.Proposal.{Allowed, proposedTable}
+use Rattle.replacement.specs.Proposal.{allowed, RuleKept, proposedTable}
 use Rattle.replacement.specs.Rewire.{finished}
 use Rattle.replacement.specs.Calls.{
   equalTables,
+  GoodProposal,
   applyRank,
   ApplyGiven,
   by-window,
@@ -50,7 +52,7 @@ use Rattle.replacement.specs.Calls.{
   appliedOutcome,
 }
 use Rattle.replacement.proofs.Gain.{gain-iff}
-use Rattle.replacement.proofs.Proposal.{allowed-iff}
+use Rattle.replacement.proofs.Proposal.{allowed-iff, rule-iff}
 use Rattle.replacement.proofs.Finished.{finished-well-formed}
 
 equal-iff : (g : Graph) (root : ℕ) (w : Leaves) (p : Proposal)
@@ -58,15 +60,14 @@ equal-iff : (g : Graph) (root : ℕ) (w : Leaves) (p : Proposal)
 unfolding equalTables sameTable
 equal-iff g root w p = eqb-iff _ _
 
--- all that is asked of a proposal but the room for what it makes
-pub record Accepted (g : Graph) (root : ℕ) (w : Leaves) (p : Proposal) : Type 0 where
-  pub window : Window g root w
-  pub rule : Allowed (g .net) root w p
-  pub equal : proposedTable (g .net) root w p ≡ table (g .net) w root
-  pub fewer : usedGates (finished g root p) < usedGates g
-
 module _ (g : Graph) (root : ℕ) (w : Leaves) (p : Proposal) where
   -- ---- the refusals
+
+  -- the test of the rule stands on a window
+  candidate-iff : Window g root w → (allowed (g .net) root w p ≡ true) ↔ RuleKept (Covered (g .net) w) root p
+  candidate-iff known =
+      let same = rule-iff g (known .graph .lawful) root (known .root-used .is-gate) w p in
+      let test = allowed-iff (g .net) root w p in (λ e. same .0 (test .0 e), λ r. test .1 (same .1 r))
 
   module _ (b : Buffers) where
     -- the four rows of a window stand before the others
@@ -74,7 +75,9 @@ module _ (g : Graph) (root : ℕ) (w : Leaves) (p : Proposal) where
         → WindowGiven g root w q ⊎ (¬ Silent applyRank q (applyRefusals g root w p b))
     unfolding applyRefusals windowRefusals rootRefusals
     apply-complete q (by-window h) = inl h
-    apply-complete q (bad-candidate h) = inr (λ s. let t = s .1 .1 .1 .1 in h (denial-off _ (allowed-iff (g .net) root w p) (t .0 refl)))
+    apply-complete q (bad-candidate h) = inr (λ s.
+        let known = silent-window g root w (λ _. s .0 refl, (λ _. s .1 .0 refl, (λ _. s .1 .1 .0 refl, (λ _. s .1 .1 .1 .0 refl, tt)))) in
+        h (denial-off _ (candidate-iff known) (s .1 .1 .1 .1 .0 refl)))
     apply-complete q (not-equal h) = inr (λ s. let t = s .1 .1 .1 .1 in h (denial-off _ (equal-iff g root w p) (t .1 .0 refl)))
     apply-complete q (no-gain h) =
         inr (λ s. let t = s .1 .1 .1 .1 in let f = denial-off _ (gain-iff g root p) (t .1 .1 .0 refl) in omega arith)
@@ -89,8 +92,8 @@ module _ (g : Graph) (root : ℕ) (w : Leaves) (p : Proposal) where
     apply-decides : Decides applyRank (ApplyGiven g root w p b) (applyRefusals g root w p b)
     unfolding applyRefusals windowRefusals rootRefusals ascends
     apply-decides = decides-join (λ q. by-window) _ (window-decides g root w) refl
-        (λ _. (
-          λ e. bad-candidate (denial-on _ (allowed-iff (g .net) root w p) e),
+        (λ n. (
+          λ e. bad-candidate (denial-on _ (candidate-iff (window-accepted g root w n)) e),
           λ _. (
             λ e. not-equal (denial-on _ (equal-iff g root w p) e),
             λ _. (
@@ -121,15 +124,16 @@ module _ (g : Graph) (root : ℕ) (w : Leaves) (p : Proposal) where
     unfolding applyEffect appliedOutcome
     apply-none-given e = none-shown (firstRefusal (applyRefusals g root w p b)) _ (λ q r. rw (r, applyEffect)) e
 
-    -- a proposal that is not refused is all that is asked
-    pub apply-accepted : (appliedOutcome ((applyEffect g root w p b) .answer)) .number ≡ 0 → Accepted g root w p
+    -- a proposal that is not refused is good
+    pub apply-accepted : (appliedOutcome ((applyEffect g root w p b) .answer)) .number ≡ 0 → GoodProposal g root w p
     unfolding applyRefusals
     apply-accepted e =
         let parts = none-parts (windowRefusals g root w) _ (apply-none-given e) in
         let s = none-silent applyRank NoGain _ (parts .1) in
+        let known = window-accepted g root w (parts .0) in
         record {
-          window = window-accepted g root w (parts .0);
-          rule = denial-off _ (allowed-iff (g .net) root w p) (s .0 refl);
+          window = known;
+          rule = denial-off _ (candidate-iff known) (s .0 refl);
           equal = denial-off _ (equal-iff g root w p) (s .1 .0 refl);
           fewer = denial-off _ (gain-iff g root p) (s .1 .1 .0 refl);
         }
@@ -142,7 +146,8 @@ module _ (g : Graph) (root : ℕ) (w : Leaves) (p : Proposal) where
         l .none-lower BadRoot (omega arith) (by-window (by-root (bad-root (λ used.
         l .none-lower BadCandidate (omega arith) (bad-candidate (λ rule.
         l .none-lower NoGain (omega arith) (no-gain (no-fewer (λ fewer.
-        h (finished-well-formed g ok root (used .is-gate) w p rule fewer))))))))))))))
+        let tested = rule-iff g (ok .lawful) root (used .is-gate) w p .1 rule in
+        h (finished-well-formed g ok root (used .is-gate) w p tested fewer))))))))))))))
 
     pub order-lost-never-given : ¬ ((appliedOutcome ((applyEffect g root w p b) .answer)) .number ≡ numberOf OrderLost)
     order-lost-never-given e = let l = apply-answers .refuses OrderLost .0 e in never-given l (l .holds)

@@ -5,18 +5,20 @@ use mathlib.Core.Bool.{Bool, true, false, false≢true}
 use mathlib.Core.List.{List}
 use mathlib.Core.Logic.{⊎-elim, _↔_}
 use Prim.Native.Nat.{ℕ, _≤_, _<_}
+use native.Mathlib.Omega.{arith}
 use borrow.Author.Tests.{leb-true, ltb-true, eqb-true, le-leb, lt-ltb, eq-eqb, ne-eqb}
 use lib.Dec.{ltb}
 use lib.ListN.{getD}
 use Rattle.graph.specs.Lists.{every}
 use Rattle.graph.specs.Literal.{varOf, isOdd}
-use Rattle.graph.specs.Graph.{Net}
+use Rattle.graph.specs.Graph.{Net, Graph, last, IsGate, Lawful}
 use Rattle.graph.specs.Sweep.{bools, turned, litValue}
 use Rattle.graph.proofs.Lists.{equal-or-not, and-left, and-right, and-both, every-at, every-of, done, _then_}
 use Rattle.window.specs.declared.leaf_set.Leaves.{Leaves}
 use Rattle.window.specs.Leaves.{leafLimit}
-use Rattle.window.specs.Local.{covered, localUpTo, localAt}
+use Rattle.window.specs.Local.{Covered, covered, Tested, localUpTo, localAt}
 use Rattle.window.specs.Table.{bit, pack, patterns, table}
+use Rattle.window.proofs.Local.{covered-iff}
 use Rattle.window.proofs.Bits.{pack-lt, pack-equal}
 use Rattle.window.proofs.Table.{table-is}
 use Rattle.window.proofs.Patterns.{locals-by-pattern, local-by-pattern}
@@ -27,6 +29,7 @@ use Rattle.replacement.specs.Proposal.{
   literalRules,
   andRules,
   allowed,
+  RuleKept,
   Allowed,
   a-literal,
   an-and,
@@ -38,14 +41,14 @@ use Rattle.replacement.proofs.Circuit.{Computes}
 -- ---- the rules
 
 module _ (net : Net) (root : ℕ) (w : Leaves) where
-  divides-facts : (l : ℕ) → divides net root w l ≡ true → Divides net root w l
+  divides-facts : (l : ℕ) → divides net root w l ≡ true → Divides (Tested net w) root l
   unfolding divides
   divides-facts l e = record {
     below-root = ltb-true (varOf l) root (and-left _ (covered net w (varOf l)) e);
     is-covered = and-right (ltb (varOf l) root) _ e;
   }
 
-  divides-test : (l : ℕ) → Divides net root w l → divides net root w l ≡ true
+  divides-test : (l : ℕ) → Divides (Tested net w) root l → divides net root w l ≡ true
   unfolding divides
   divides-test l d = and-both _ _ (lt-ltb (varOf l) root (d .below-root)) (d .is-covered)
 
@@ -92,6 +95,24 @@ module _ (net : Net) (root : ℕ) (w : Leaves) where
     pub allowed-iff : (allowed net root w p ≡ true) ↔ Allowed net root w p
     allowed-iff = (allowed-facts, allowed-test)
 
+-- a rule that is kept by one notion of coverage is kept by another that goes as far below the root
+module _ {C D : ℕ → Type 0} (root : ℕ) (as-far : (v : ℕ) → v < root → C v → D v) where
+  divides-too : {l : ℕ} → Divides C root l → Divides D root l
+  divides-too {l} d = record { below-root = d .below-root; is-covered = as-far (varOf l) (d .below-root) (d .is-covered) }
+
+  rule-too : {p : Proposal} → RuleKept C root p → RuleKept D root p
+  rule-too (a-literal k d s t) = a-literal k (divides-too d) s t
+  rule-too (an-and k d d′ z l t) = an-and k (divides-too d) (divides-too d′) z l t
+
+-- at a gate the test of coverage and coverage itself come to the same
+pub rule-iff : (g : Graph) → Lawful g → (root : ℕ) → IsGate (g .net) root → (w : Leaves) (p : Proposal)
+    → Allowed (g .net) root w p ↔ RuleKept (Covered (g .net) w) root p
+rule-iff g ok root gate w p =
+    let below : (v : ℕ) → v < root → v ≤ last (g .net) = λ v l. let h = gate .within in omega arith in (
+      rule-too root (λ v l. covered-iff g ok w v (below v l) .0),
+      rule-too root (λ v l. covered-iff g ok w v (below v l) .1),
+    )
+
 -- ---- the value of a proposal
 
 module _ (p : Proposal) where
@@ -114,7 +135,8 @@ module _ (net : Net) (root : ℕ) (w : Leaves) (p : Proposal) where
   abbrev Agree : List Bool → List Bool → Type 0
   Agree vs vs′ = (v : ℕ) → v < root → covered net w v ≡ true → getD vs v false ≡ getD vs′ v false
 
-  literal-relies : (vs vs′ : List Bool) → Agree vs vs′ → (l : ℕ) → Divides net root w l → litValue bools vs l ≡ litValue bools vs′ l
+  literal-relies : (vs vs′ : List Bool) → Agree vs vs′ → (l : ℕ) → Divides (Tested net w) root l
+      → litValue bools vs l ≡ litValue bools vs′ l
   unfolding litValue bools
   literal-relies vs vs′ h l d = ap (turned bools (isOdd l)) (h (varOf l) (d .below-root) (d .is-covered))
 

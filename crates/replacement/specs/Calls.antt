@@ -1,6 +1,6 @@
 -- Applying a proposal as a call: the refusals in order, the answer, and the lent lists afterwards.
 -- Assumes nothing.
-use Prim.Native.Nat.{ℕ, _≤_}
+use Prim.Native.Nat.{ℕ, _≤_, _<_}
 use mathlib.Core.Path.{_≡_}
 use mathlib.Core.Bool.{Bool, not}
 use mathlib.Core.List.{List, [], _∷_, _++_}
@@ -14,16 +14,24 @@ use Rattle.graph.specs.Use.{usedGates}
 use Rattle.graph.specs.Graph.{Graph, size, wellFormed, WellFormed}
 use Rattle.window.specs.declared.leaf_set.Leaves.{Leaves}
 use Rattle.window.specs.Table.{table, sameTable}
-use Rattle.window.specs.Calls.{windowRefusals, windowRank, WindowGiven}
+use Rattle.window.specs.Local.{Covered}
+use Rattle.window.specs.Calls.{windowRefusals, Window, windowRank, WindowGiven}
 use Rattle.replacement.specs.declared.types.Proposal.{Proposal}
 use Rattle.replacement.specs.declared.types.Applied.{Applied}
-use Rattle.replacement.specs.Proposal.{allowed, Allowed, proposedTable}
+use Rattle.replacement.specs.Proposal.{allowed, RuleKept, proposedTable}
 use Rattle.replacement.specs.Rewire.{finished, gain, atLeastOne}
 
 -- a replacement's table equals the root's
 unfoldable pub equalTables : Graph → ℕ → Leaves → Proposal → Bool
 unfolding sameTable table proposedTable
 equalTables g root w p = sameTable (proposedTable (g .net) root w p) (table (g .net) w root)
+
+-- a proposal that is good: over a window it keeps its kind's rule, its table equals the root's, and its gain is at least 1
+pub record GoodProposal (g : Graph) (root : ℕ) (w : Leaves) (p : Proposal) : Type 0 where
+  pub window : Window g root w
+  pub rule : RuleKept (Covered (g .net) w) root p
+  pub equal : proposedTable (g .net) root w p ≡ table (g .net) w root
+  pub fewer : usedGates (finished g root p) < usedGates g
 
 -- its refusals rank by their numbers
 abbrev pub applyRank : Refusal → ℕ
@@ -32,7 +40,7 @@ applyRank = windowRank
 -- when applying a proposal is refused
 pub data ApplyGiven (g : Graph) (root : ℕ) (w : Leaves) (p : Proposal) (b : Buffers) : Refusal → Type 0 where
   by-window : {r : Refusal} → WindowGiven g root w r → ApplyGiven g root w p b r
-  bad-candidate : ¬ Allowed (g .net) root w p → ApplyGiven g root w p b BadCandidate
+  bad-candidate : ¬ RuleKept (Covered (g .net) w) root p → ApplyGiven g root w p b BadCandidate
   not-equal : ¬ (proposedTable (g .net) root w p ≡ table (g .net) w root) → ApplyGiven g root w p b NotEqual
   no-gain : usedGates g ≤ usedGates (finished g root p) → ApplyGiven g root w p b NoGain
   order-lost : ¬ WellFormed (finished g root p) → ApplyGiven g root w p b OrderLost

@@ -2,7 +2,7 @@
 -- Assumes nothing.
 use Prim.Native.Nat.{ℕ, _≤_, _<_}
 use mathlib.Core.Path.{_≡_}
-use mathlib.Core.Bool.{Bool, true, false, cond, _&&_}
+use mathlib.Core.Bool.{Bool, false, cond, _&&_}
 use mathlib.Core.List.{List, [], _∷_}
 use lib.Dec.{leb, ltb, eqb}
 use Rattle.graph.specs.Lists.{every}
@@ -10,7 +10,7 @@ use Rattle.graph.specs.Literal.{varOf, isOdd}
 use Rattle.graph.specs.Graph.{Net}
 use Rattle.graph.specs.Sweep.{Algebra, bools, turned, litValue}
 use Rattle.window.specs.declared.leaf_set.Leaves.{Leaves}
-use Rattle.window.specs.Local.{covered, localUpTo}
+use Rattle.window.specs.Local.{covered, Tested, localUpTo}
 use Rattle.window.specs.Table.{bit, pack, patterns}
 use Rattle.replacement.specs.declared.types.Proposal.{Proposal}
 
@@ -47,20 +47,24 @@ unfolding every literalRules andRules
 allowed net root w p =
     cond (eqb (p .kind) 0) (every (literalRules net root w p)) (cond (eqb (p .kind) 1) (every (andRules net root w p)) false)
 
--- the same as facts
-pub record Divides (net : Net) (root : ℕ) (w : Leaves) (l : ℕ) : Type 0 where
+-- the same as facts, where Cov says which variables are covered: those that pass the test (`Tested`), or those that are (`Covered`)
+pub record Divides (Cov : ℕ → Type 0) (root l : ℕ) : Type 0 where
   pub below-root : varOf l < root
-  pub is-covered : covered net w (varOf l) ≡ true
+  pub is-covered : Cov (varOf l)
 
-pub data Allowed (net : Net) (root : ℕ) (w : Leaves) (p : Proposal) : Type 0 where
-  a-literal : p .kind ≡ 0 → Divides net root w (p .first .0) → p .second .0 ≡ 0 → p .turned ≡ 0 → Allowed net root w p
+pub data RuleKept (Cov : ℕ → Type 0) (root : ℕ) (p : Proposal) : Type 0 where
+  a-literal : p .kind ≡ 0 → Divides Cov root (p .first .0) → p .second .0 ≡ 0 → p .turned ≡ 0 → RuleKept Cov root p
   an-and : p .kind ≡ 1
-      → Divides net root w (p .first .0)
-      → Divides net root w (p .second .0)
+      → Divides Cov root (p .first .0)
+      → Divides Cov root (p .second .0)
       → 0 < varOf (p .second .0)
       → varOf (p .second .0) < varOf (p .first .0)
       → p .turned ≤ 1
-      → Allowed net root w p
+      → RuleKept Cov root p
+
+-- by the test, which answers whatever the net, the root and the leaves are
+abbrev pub Allowed : Net → ℕ → Leaves → Proposal → Type 0
+Allowed net root w p = RuleKept (Tested net w) root p
 
 -- the proposal's value over any algebra, where vs has the values of the variables below the root
 unfoldable pub proposedValue : {A : Type 0} → Algebra A → List A → Proposal → A

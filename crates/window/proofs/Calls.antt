@@ -27,7 +27,7 @@ use Rattle.graph.proofs.Refuse.{
 }
 use Rattle.graph.proofs.Tests.{denial-on, denial-off}
 use Rattle.window.specs.declared.leaf_set.Leaves.{Leaves}
-use Rattle.window.specs.Leaves.{leavesOf, WellSet}
+use Rattle.window.specs.Leaves.{leavesOf}
 use Rattle.window.specs.Local.{covered, Covered}
 use Rattle.window.specs.Calls.{
   rootRefusals,
@@ -38,6 +38,7 @@ use Rattle.window.specs.Calls.{
   pickAnswer,
   pickOutcome,
   windowRefusals,
+  Window,
   windowRank,
   WindowGiven,
   by-root,
@@ -90,19 +91,12 @@ module _ (g : Graph) (root : ℕ) where
 
 -- ---- leaves besides that cut the root
 
--- all that a call on a window asks for
-pub record Window (g : Graph) (root : ℕ) (w : Leaves) : Type 0 where
-  pub graph : WellFormed g
-  pub root-used : InUse g root
-  pub leaves : WellSet root w
-  pub cut : Covered (g .net) w root
-
 module _ (g : Graph) (root : ℕ) (w : Leaves) where
   -- the test of the cut stands on a root that is a gate of a well formed graph
   cut-iff : WellFormed g → InUse g root → (covered (g .net) w root ≡ true) ↔ Covered (g .net) w root
   cut-iff ok used = covered-iff g (ok .lawful) w root (used .is-gate .within)
 
-  silent-window : Silent windowRank NotACut (windowRefusals g root w) → Window g root w
+  pub silent-window : Silent windowRank NotACut (windowRefusals g root w) → Window g root w
   unfolding windowRefusals rootRefusals
   silent-window s =
       let known = known-root g root (s .0 refl) (s .1 .0 refl) in

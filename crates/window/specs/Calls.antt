@@ -53,6 +53,13 @@ unfoldable pub windowRefusals : Graph → ℕ → Leaves → List Row
 unfolding rootRefusals wellSet covered
 windowRefusals g root w = rootRefusals g root ++ (not (wellSet root w) ⇒ BadLeaves ∷ not (covered (g .net) w root) ⇒ NotACut ∷ [])
 
+-- the same as facts
+pub record Window (g : Graph) (root : ℕ) (w : Leaves) : Type 0 where
+  pub graph : WellFormed g
+  pub root-used : InUse g root
+  pub leaves : WellSet root w
+  pub cut : Covered (g .net) w root
+
 -- its refusals rank by their numbers
 abbrev pub windowRank : Refusal → ℕ
 windowRank = rootRank

@@ -1,6 +1,7 @@
 -- Covered variables, and their local functions of the leaves.
 -- Assumes nothing.
 use Prim.Native.Nat.{ℕ, _<_}
+use mathlib.Core.Path.{_≡_}
 use mathlib.Core.Bool.{Bool, true, false, cond, _&&_}
 use mathlib.Core.List.{List}
 use mathlib.Core.Option.{Option, none, some, Option·map}
@@ -31,6 +32,10 @@ coveredOwn net w v = elim (leafPlace w v) [ some j ↦ some true | none ↦ cond
 unfoldable pub covered : Net → Leaves → ℕ → Bool
 unfolding valueAt coverage coveredOwn
 covered net w v = valueAt coverage (coveredOwn net w) net v
+
+-- variable v passes this test; of the variables of a well-formed graph just the covered ones do (`covered-iff`)
+abbrev pub Tested : Net → Leaves → ℕ → Type 0
+Tested net w v = covered net w v ≡ true
 
 -- a leaf has the value that the assignment of the leaves gives its place; a leaf that is a gate too
 unfoldable pub leafOwn : {A : Type 0} → Leaves → (ℕ → A) → ℕ → Option A
