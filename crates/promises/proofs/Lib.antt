@@ -6,4 +6,5 @@ pub mod Search
 pub mod Stored
 pub mod Accepted
 pub mod Granted
+pub mod Excluded
 pub mod Contracts
