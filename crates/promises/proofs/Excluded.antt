@@ -3,7 +3,6 @@
 use mathlib.Core.Path.{_≡_, refl, sym, ap}
 use mathlib.Core.Bool.{Bool, true, false, false≢true}
 use mathlib.Core.List.{List, [], _∷_}
-use Prim.Native.Nat.{ℕ}
 use lib.ListN.{getD}
 use Rattle.graph.specs.Lists.{here}
 use Rattle.graph.specs.Graph.{wellFormed, WellFormed}
