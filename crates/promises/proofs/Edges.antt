@@ -2,12 +2,25 @@
 -- Assumes nothing.
 use mathlib.Core.Path.{refl}
 use Rattle.promises.specs.Calls.{Agrees}
-use Rattle.promises.specs.Edges.{textEdges, graphEdges}
+use Rattle.promises.specs.Edges.{readEdges, writeEdges, evaluateEdges}
+use Rattle.promises.specs.WindowEdges.{pickEdges, tableEdges}
 
-pub text-edges-agree : Agrees textEdges
-unfolding textEdges
-text-edges-agree = refl
+pub read-edges-agree : Agrees readEdges
+unfolding readEdges
+read-edges-agree = refl
 
-pub graph-edges-agree : Agrees graphEdges
-unfolding graphEdges
-graph-edges-agree = refl
+pub write-edges-agree : Agrees writeEdges
+unfolding writeEdges
+write-edges-agree = refl
+
+pub evaluate-edges-agree : Agrees evaluateEdges
+unfolding evaluateEdges
+evaluate-edges-agree = refl
+
+pub pick-edges-agree : Agrees pickEdges
+unfolding pickEdges
+pick-edges-agree = refl
+
+pub table-edges-agree : Agrees tableEdges
+unfolding tableEdges
+table-edges-agree = refl

@@ -2,3 +2,4 @@ pub mod Calls
 pub mod Bench
 pub mod Promises
 pub mod Edges
+pub mod WindowEdges
