@@ -4,6 +4,7 @@ use mathlib.Core.Path.{refl}
 use Rattle.promises.specs.Calls.{Agrees}
 use Rattle.promises.specs.Edges.{readEdges, writeEdges, evaluateEdges}
 use Rattle.promises.specs.WindowEdges.{pickEdges, tableEdges}
+use Rattle.promises.specs.ReplacementEdges.{listEdges, applyEdges, runEdges, runSteps, runChoices}
 
 pub read-edges-agree : Agrees readEdges
 unfolding readEdges
@@ -24,3 +25,23 @@ pick-edges-agree = refl
 pub table-edges-agree : Agrees tableEdges
 unfolding tableEdges
 table-edges-agree = refl
+
+pub list-edges-agree : Agrees listEdges
+unfolding listEdges
+list-edges-agree = refl
+
+pub apply-edges-agree : Agrees applyEdges
+unfolding applyEdges
+apply-edges-agree = refl
+
+pub run-edges-agree : Agrees runEdges
+unfolding runEdges
+run-edges-agree = refl
+
+pub run-steps-agree : Agrees runSteps
+unfolding runSteps
+run-steps-agree = refl
+
+pub run-choices-agree : Agrees runChoices
+unfolding runChoices
+run-choices-agree = refl

@@ -3,3 +3,4 @@ pub mod Bench
 pub mod Promises
 pub mod Edges
 pub mod WindowEdges
+pub mod ReplacementEdges
