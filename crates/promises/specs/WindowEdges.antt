@@ -60,7 +60,7 @@ tableEdges =
     -- a count of seven, though the six places are well set
     ∷ tableCall sixInputs 7 (record { count = 7; places = variables (1 ∷ 2 ∷ 3 ∷ 4 ∷ 5 ∷ 6 ∷ []) }) gives (10 ∷ [])
     -- variable 0 as a leaf, the root itself, and a gate above the root
-    ∷ (tableCall e1 4 (leavesOf (0 ∷ 1 ∷ [])) ++ tableCall e1 4 (leavesOf (1 ∷ 4 ∷ []))) gives (10 ∷ 10 ∷ [])
+    ∷ (tableCall e1 4 (leavesOf (0 ∷ 1 ∷ 2 ∷ [])) ++ tableCall e1 4 (leavesOf (1 ∷ 2 ∷ 4 ∷ []))) gives (10 ∷ 10 ∷ [])
     ∷ tableCall e1 3 (leavesOf (1 ∷ 2 ∷ 4 ∷ [])) gives (10 ∷ [])
     -- an unused place that is not 0, and a used one that is
     ∷ tableCall e1 4 (record { count = 1; places = variables (1 ∷ 2 ∷ 0 ∷ 0 ∷ 0 ∷ 0 ∷ []) }) gives (10 ∷ [])
@@ -81,6 +81,6 @@ tableEdges =
     ∷ tableCall halfGate 9 (leavesOf []) gives (7 ∷ [])
     ∷ tableCall e1 2 (leavesOf (2 ∷ 1 ∷ [])) gives (9 ∷ [])
     ∷ tableCall e1 4 (leavesOf (0 ∷ 1 ∷ [])) gives (10 ∷ [])
-    -- a refused table is 0
-    ∷ ((tableAnswer e1 3 (leavesOf (1 ∷ []))) .table .0 ∷ []) gives (0 ∷ [])
+    -- a refused table is 0, though the leaves would cut the root
+    ∷ ((tableAnswer e1 4 (leavesOf (1 ∷ 2 ∷ 2 ∷ []))) .table .0 ∷ []) gives (0 ∷ [])
     ∷ []
