@@ -2,10 +2,10 @@
 //! and first lines at the limits, rests, noise, long texts.
 
 use crate::compare::Sort;
-use samples::damage::{damaged, ODD_NUMBERS};
-use samples::graphs::{self, Size};
-use samples::texts::{mixed, valid, BAD_RESTS};
-use samples::Random;
+use samples::damage::damaged;
+use samples::odd_texts::{any_rest, cut_anywhere, first_line, noise, one_number_changed};
+use samples::texts::valid;
+use samples::{graphs, Random};
 
 pub const SORTS: [Sort<Vec<u8>>; 9] = [
     ("stated graphs, any order, any rest", 5_000, stated),
@@ -13,7 +13,7 @@ pub const SORTS: [Sort<Vec<u8>>; 9] = [
     ("one number at the edge of its rule", 1_500, edge),
     ("a rest that may be wrong", 1_000, rest),
     ("cut anywhere", 2_000, cut),
-    ("first lines at the limits, odd numbers", 4_000, header),
+    ("first lines at the limits, odd numbers", 4_000, first_line),
     ("noise", 2_500, noise),
     ("up to 1,024 gates, whole or damaged", 400, large),
     ("around 65,535 bytes, good or wrong", 400, long),
@@ -29,92 +29,19 @@ fn wrong(random: &mut Random) -> Vec<u8> {
     damaged(random, &text)
 }
 
-/// A number of a later line beside its value, its line's first number or the
-/// largest literal.
 fn edge(random: &mut Random) -> Vec<u8> {
     let graph = graphs::any(random);
-    let text = String::from_utf8(mixed(random, &graph)).expect("a text is ASCII");
-    let mut lines: Vec<Vec<String>> = text.lines().map(fields).collect();
-    if lines.len() > 1 {
-        let line = random.between(1, lines.len() - 1);
-        let place = random.between(0, lines[line].len() - 1);
-        let near = [&lines[line][place], &lines[line][0]].map(|field| value(field));
-        let near = [near[0], near[1], graph.last_var().lit(true).0];
-        let beside = random.word_between(0, 4);
-        lines[line][place] = (random.pick(&near) + beside).saturating_sub(2).to_string();
-    }
-    let whole: String = lines.iter().map(|line| line.join(" ") + "\n").collect();
-    whole.into_bytes()
-}
-
-fn fields(line: &str) -> Vec<String> {
-    line.split(' ').map(str::to_string).collect()
-}
-
-fn value(field: &str) -> u32 {
-    field.parse().expect("a field of a later line is a number")
+    one_number_changed(random, &graph)
 }
 
 fn rest(random: &mut Random) -> Vec<u8> {
     let graph = graphs::small(random);
-    let mut text = mixed(random, &graph);
-    match random.coin() {
-        true => text.extend(random.pick(&BAD_RESTS).bytes()),
-        false => text.push(random.word() as u8),
-    }
-    text
+    any_rest(random, &graph)
 }
 
 fn cut(random: &mut Random) -> Vec<u8> {
     let graph = graphs::small(random);
-    let mut text = mixed(random, &graph);
-    text.truncate(random.between(0, text.len()));
-    text
-}
-
-/// A first line, and at times the lines that it announces.
-fn header(random: &mut Random) -> Vec<u8> {
-    let inputs = random.pick(&[0, 1, 2, 63, 64, 65]);
-    let gates = random.pick(&[0, 1, 2, 1023, 1024, 1025]);
-    let outputs = random.pick(&[0, 1, 2, 63, 64, 65]);
-    let latches = random.pick(&[0, 0, 0, 1]);
-    let highest = inputs + gates + random.pick(&[0, 0, 0, 1]);
-    let counts = [highest, inputs, latches, outputs, gates];
-    let mut fields: Vec<String> = counts.iter().map(usize::to_string).collect();
-    if random.once_in(3) {
-        let place = random.between(0, fields.len() - 1);
-        fields[place] = random.pick(&ODD_NUMBERS).to_string();
-    }
-    let mut text = format!("aag {}\n", fields.join(" ")).into_bytes();
-    let size = Size {
-        inputs: inputs.min(64),
-        gates: gates.min(1024),
-        outputs: outputs.min(64),
-    };
-    if random.coin() {
-        let graph = graphs::exact(random, size);
-        let whole = mixed(random, &graph);
-        let lines = whole.iter().position(|&byte| byte == b'\n').unwrap_or(0);
-        text.extend(&whole[lines + 1..]);
-    }
-    text
-}
-
-fn noise(random: &mut Random) -> Vec<u8> {
-    let start: &[u8] = random.pick(&[
-        b"" as &[u8],
-        b"aag ",
-        b"aag 0 0 0 0 0\n",
-        b"aag 1 1 0 1 0\n",
-    ]);
-    let mut text = start.to_vec();
-    for _ in 0..random.between(0, 40) {
-        text.push(match random.between(0, 2) {
-            0 => random.word() as u8,
-            _ => random.pick(b"0123456789 \n\raigoc"),
-        });
-    }
-    text
+    cut_anywhere(random, &graph)
 }
 
 fn large(random: &mut Random) -> Vec<u8> {
@@ -129,7 +56,7 @@ fn large(random: &mut Random) -> Vec<u8> {
 /// Any text, filled up with a comment, so that 2 meets every other refusal.
 fn long(random: &mut Random) -> Vec<u8> {
     let mut text = match random.between(0, 3) {
-        0 => header(random),
+        0 => first_line(random),
         1 => wrong(random),
         _ => stated(random),
     };
