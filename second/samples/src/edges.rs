@@ -113,7 +113,12 @@ pub fn edges() -> Vec<Edge> {
 
 /// A random graph with one fault.
 pub fn spoiled(random: &mut Random) -> Graph {
-    let mut graph = graphs::any(random);
+    let graph = graphs::any(random);
+    with_fault(random, graph)
+}
+
+/// A well formed graph after one fault.
+pub fn with_fault(random: &mut Random, mut graph: Graph) -> Graph {
     let (last, gates) = (graph.last_var(), graph.gate_count());
     match random.between(0, 6) {
         0 => graph.inputs = random.pick(&[65, 1 << 31, 1 << 32, u64::MAX]),

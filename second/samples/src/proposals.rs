@@ -3,7 +3,7 @@
 
 use crate::Random;
 use model::window::Window;
-use model::{Proposal, Var};
+use model::{Lit, Proposal, Var};
 
 fn divisors(window: &Window) -> Vec<Var> {
     let below = (0..window.root.0).map(Var);
@@ -23,6 +23,46 @@ pub fn good(random: &mut Random, window: &Window) -> Proposal {
     let low = random.between(1, high - 1);
     let (a, b) = (lit(random, high), lit(random, low));
     Proposal::pair(a, b, u32::from(random.coin()))
+}
+
+/// Every proposal within the rule.
+fn all(window: &Window) -> Vec<Proposal> {
+    let literals: Vec<Lit> = divisors(window)
+        .into_iter()
+        .flat_map(|var| [var.lit(false), var.lit(true)])
+        .collect();
+    let mut all: Vec<Proposal> = literals.iter().map(|&lit| Proposal::single(lit)).collect();
+    for &a in &literals {
+        for &b in &literals {
+            all.extend([0, 1].map(|turned| Proposal::pair(a, b, turned)));
+        }
+    }
+    all.retain(|proposal| proposal.keeps_rule(window));
+    all
+}
+
+/// On how many of the 64 patterns a proposal's table is not the root's.
+pub fn wrong_patterns(window: &Window, proposal: &Proposal) -> u32 {
+    (proposal.table(window) ^ window.root_table()).count_ones()
+}
+
+/// A proposal within the rule that has the root's table, whatever its gain.
+pub fn equal(random: &mut Random, window: &Window) -> Option<Proposal> {
+    let mut equal = all(window);
+    equal.retain(|proposal| wrong_patterns(window, proposal) == 0);
+    (!equal.is_empty()).then(|| random.pick(&equal))
+}
+
+/// A proposal within the rule whose table is wrong on as few patterns as any.
+pub fn nearly_equal(random: &mut Random, window: &Window) -> Option<Proposal> {
+    let mut unequal = all(window);
+    unequal.retain(|proposal| wrong_patterns(window, proposal) > 0);
+    let wrong = unequal
+        .iter()
+        .map(|proposal| wrong_patterns(window, proposal));
+    let least = wrong.min()?;
+    unequal.retain(|proposal| wrong_patterns(window, proposal) == least);
+    Some(random.pick(&unequal))
 }
 
 /// A literal that no proposal at this root may name.

@@ -24,8 +24,17 @@ fn apply_poisoned(
 
 /// A random graph with a root and leaves that cut it.
 fn window(random: &mut Random) -> (Graph, Var, Leaves) {
+    window_in(random, graphs::any)
+}
+
+/// The same where every proposal can be tried.
+fn small_window(random: &mut Random) -> (Graph, Var, Leaves) {
+    window_in(random, |random| graphs::redundant(random, graphs::SMALL))
+}
+
+fn window_in(random: &mut Random, make: fn(&mut Random) -> Graph) -> (Graph, Var, Leaves) {
     loop {
-        let graph = graphs::any(random);
+        let graph = make(random);
         if let Some(root) = windows::good_root(random, &graph) {
             let leaves = windows::cut(random, &graph, root);
             return (graph, root, leaves);
@@ -111,4 +120,37 @@ fn good_proposals_are_refused_for_their_table_or_their_gain_alone() {
         }
     }
     assert!(applied > 100, "{applied}");
+}
+
+#[test]
+fn equal_proposals_are_refused_for_their_gain_alone() {
+    let mut random = Random::new(56);
+    let mut applied = 0;
+    for _ in 0..1000 {
+        let (graph, root, leaves) = small_window(&mut random);
+        let window = Window::new(&graph, root, &leaves);
+        if let Some(proposal) = proposals::equal(&mut random, &window) {
+            match apply_poisoned(&graph, root, &leaves, &proposal) {
+                None => applied += 1,
+                Some(refusal) => assert_eq!(refusal, Refusal::NoGain),
+            }
+        }
+    }
+    assert!(applied > 100, "{applied}");
+}
+
+#[test]
+fn nearly_equal_proposals_are_refused_for_their_table() {
+    let mut random = Random::new(57);
+    let mut on_few = 0;
+    for _ in 0..1000 {
+        let (graph, root, leaves) = small_window(&mut random);
+        let window = Window::new(&graph, root, &leaves);
+        if let Some(proposal) = proposals::nearly_equal(&mut random, &window) {
+            let refusal = apply_poisoned(&graph, root, &leaves, &proposal);
+            assert_eq!(refusal, Some(Refusal::NotEqual));
+            on_few += usize::from(proposals::wrong_patterns(&window, &proposal) <= 4);
+        }
+    }
+    assert!(on_few > 10, "{on_few}");
 }
