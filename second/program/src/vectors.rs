@@ -5,10 +5,12 @@
 mod arguments;
 mod calls;
 mod notation;
+mod sorts;
+#[cfg(test)]
+mod tests;
 
 use samples::Random;
 use std::io::{self, Write};
-use std::iter;
 
 const SEED: u64 = 1;
 
@@ -31,6 +33,7 @@ use Rattle.promises.specs.Calls.{
 
 /// A call of the definitions, and what it must give: the answer, then each
 /// lent word as the call leaves it.
+#[derive(Debug, PartialEq)]
 pub struct Row {
     call: &'static str,
     arguments: Vec<String>,
@@ -38,12 +41,10 @@ pub struct Row {
 }
 
 pub fn print(out: &mut dyn Write) -> io::Result<()> {
-    let mut random = Random::new(SEED);
-    let samplers = calls::SAMPLERS.into_iter();
-    let each = samplers.flat_map(|(rows, sampler)| iter::repeat_n(sampler, rows));
     write!(out, "{HEADER}")?;
-    for (number, sampler) in each.enumerate() {
-        print_row(number, &sampler(&mut random), out)?;
+    let rows = sorts::rows(&mut Random::new(SEED));
+    for (number, row) in rows.iter().enumerate() {
+        print_row(number, row, out)?;
     }
     Ok(())
 }

@@ -1,6 +1,6 @@
 //! Arguments as the definitions write them.
 
-use model::{Graph, Leaves, Proposal, Var};
+use model::{Graph, Leaves, Proposal};
 use std::fmt::Display;
 
 pub fn list<T: Display>(items: &[T]) -> String {
@@ -8,13 +8,8 @@ pub fn list<T: Display>(items: &[T]) -> String {
     format!("({front}[])")
 }
 
-/// How many places a lent list has.
-pub fn places<T>(lent: &[T]) -> String {
-    lent.len().to_string()
-}
-
-pub fn buffers(gates: &[u32], outputs: &[u32]) -> String {
-    format!("(buffers {} {})", places(gates), places(outputs))
+pub fn buffers(gates: usize, outputs: usize) -> String {
+    format!("(buffers {gates} {outputs})")
 }
 
 pub fn graph(graph: &Graph) -> String {
@@ -29,11 +24,6 @@ pub fn leaves(leaves: &Leaves) -> String {
             .map(|place| format!("record {{ 0 = {place} }}")),
     );
     format!("(record {{ count = {}; places = {places} }})", leaves.count)
-}
-
-/// The arguments that every call on a window begins with.
-pub fn window(lent: &Graph, root: Var, set: &Leaves) -> Vec<String> {
-    vec![graph(lent), root.0.to_string(), leaves(set)]
 }
 
 pub fn proposal(proposal: &Proposal) -> String {
