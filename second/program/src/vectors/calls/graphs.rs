@@ -53,11 +53,25 @@ pub struct Run {
     pub work: Room,
 }
 
+/// The most inputs and gates in use of a graph to run, since the prover lists
+/// at each gate in every pass.
+const MOST_IN_USE: usize = 5;
+
+fn in_use(graph: &Graph) -> usize {
+    match graph.is_well_formed() {
+        true => graph.inputs as usize + graph.gates_in_use(),
+        false => 0,
+    }
+}
+
 impl Call for Run {
     const NAME: &'static str = "runCall";
 
     fn draw(random: &mut Random) -> Run {
         let graph = any_graph(random, tiny);
+        if in_use(&graph) > MOST_IN_USE {
+            return Run::draw(random);
+        }
         let result = Room::for_graph(random, &graph);
         let work = Room::for_graph(random, &graph);
         Run {

@@ -4,7 +4,6 @@ use super::{Call, Told};
 use crate::vectors::arguments::{any_proposal, middling, places, small, wide};
 use crate::vectors::arguments::{Room, Site, UNWRITTEN};
 use crate::vectors::notation;
-use model::window::Window;
 use model::{
     apply, list, pick_leaves, replace, table, Graph, ListRefusal, Proposal, Record, Refusal, Var,
 };
@@ -86,14 +85,19 @@ fn fields(record: Record) -> [u32; 5] {
     [kind, first, second, turned, gain as u32]
 }
 
-/// The most divisors of a root to list. The prover tries every pair of them on
-/// every pattern, so that six take it twice as long as five.
-const MOST_DIVISORS: [usize; 4] = [4, 5, 5, 6];
+/// Gates between the leaves and a root to list, and all divisors of it. The
+/// prover tries every pair of them on every pattern, so they stay few.
+const MOST_BETWEEN: usize = 2;
+const MOST_DIVISORS: usize = 6;
 
-fn divisors(site: &Site) -> usize {
-    let below = (0..site.root.0).map(Var);
-    let count = |window: Window| below.filter(|&var| window.is_divisor(var)).count();
-    site.window().map_or(0, count)
+/// Whether a list would take the prover too long; a refusal takes it no time.
+fn is_too_long(site: &Site) -> bool {
+    site.window().is_some_and(|window| {
+        let below = (0..site.root.0).map(Var);
+        let divisors = below.filter(|&var| window.is_divisor(var)).count();
+        // The constant is a divisor too.
+        divisors > (1 + site.leaves.count + MOST_BETWEEN).min(MOST_DIVISORS)
+    })
 }
 
 impl List {
@@ -107,7 +111,7 @@ impl Call for List {
 
     fn draw(random: &mut Random) -> List {
         let site = Site::draw(random, small);
-        if divisors(&site) > random.pick(&MOST_DIVISORS) {
+        if is_too_long(&site) {
             return List::draw(random);
         }
         let need = match List::listed(&site, &mut []) {

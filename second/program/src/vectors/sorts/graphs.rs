@@ -26,18 +26,23 @@ fn is_complete(call: &Evaluate) -> bool {
     call.values.len() as u64 == call.graph.inputs
 }
 
-pub const RUN: [Sort<Run>; 10] = [
-    (4, "no replacement", |call, told| {
-        made(told) == Some(0) && call.graph.gate_count() > 0
+pub const RUN: [Sort<Run>; 11] = [
+    (3, "no replacement, gates left", |_, told| {
+        made(told) == Some(0) && leaves_gates(told)
     }),
-    (8, "one replacement", |_, told| made(told) == Some(1)),
-    (8, "two replacements or more", |_, told| {
-        made(told) >= Some(2)
+    (3, "one replacement, gates left", |_, told| {
+        made(told) == Some(1) && leaves_gates(told)
+    }),
+    (3, "two replacements or more, gates left", |_, told| {
+        made(told) >= Some(2) && leaves_gates(told)
+    }),
+    (6, "replacements until no gate is left", |_, told| {
+        made(told) >= Some(1) && !leaves_gates(told)
     }),
     (4, "gates not in use", |call, told| {
         told.is_accepted() && has_unused(call)
     }),
-    (4, "gates not in use and a replacement", |call, told| {
+    (3, "gates not in use and a replacement", |call, told| {
         made(told) >= Some(1) && has_unused(call)
     }),
     (4, "a bad graph", |_, told| told.is(BadGraph)),
@@ -58,6 +63,10 @@ pub const RUN: [Sort<Run>; 10] = [
 /// How many replacements a run made.
 fn made(told: &Told) -> Option<u64> {
     told.answer.get(2).copied()
+}
+
+fn leaves_gates(told: &Told) -> bool {
+    told.answer[1] > 0
 }
 
 fn has_unused(call: &Run) -> bool {

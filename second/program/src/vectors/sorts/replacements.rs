@@ -10,7 +10,7 @@ use model::{replace, Lit, Record};
 use samples::proposals;
 
 pub const LIST: [Sort<List>; 11] = [
-    (3, "records of both kinds", |call, told| {
+    (2, "records of both kinds", |call, told| {
         let records = listed(call, told);
         [0, 1]
             .iter()
@@ -19,16 +19,17 @@ pub const LIST: [Sort<List>; 11] = [
     (2, "a turned record", |call, told| {
         listed(call, told).iter().any(|record| record.turned == 1)
     }),
-    (2, "a gain of 2 or more", |call, told| {
+    (1, "a gain of 2 or more", |call, told| {
         listed(call, told).iter().any(|record| record.gain >= 2)
     }),
-    (3, "three records or more", |call, told| {
+    (2, "three records or more", |call, told| {
         listed(call, told).len() >= 3
     }),
-    (2, "records over three leaves or more", |call, told| {
-        call.site.leaves.count >= 3 && !listed(call, told).is_empty()
+    (2, "a record of kind 1 over three leaves", |call, told| {
+        let records = listed(call, told);
+        call.site.leaves.count >= 3 && records.iter().any(|record| record.kind == 1)
     }),
-    (3, "an empty list", |call, told| {
+    (2, "an empty list", |call, told| {
         told.answer == [0, 0] && call.room > 0
     }),
     (2, "no room for three records or more", |call, told| {
