@@ -18,6 +18,10 @@ unfoldable pub restOf : ℕ → List ℕ
 unfolding bytes
 restOf n = bytes "aag 0 0 0 0 0\n" ++ replicate n 99
 
+-- half a gate: not well formed
+abbrev pub halfGate : Graph
+halfGate = graphOf 1 (3 ∷ []) (2 ∷ [])
+
 -- two inputs, the first without the second, and that once plain and once complemented
 abbrev oneGate : Graph
 oneGate = graphOf 2 (5 ∷ 2 ∷ []) (6 ∷ 7 ∷ [])
@@ -103,7 +107,7 @@ evaluateEdges =
     -- one place less than there are outputs, and just enough
     ∷ (evaluateCall oneGate (1 ∷ 0 ∷ []) 1 ++ evaluateCall oneGate (1 ∷ 0 ∷ []) 2) gives (16 ∷ 99 ∷ 0 ∷ 2 ∷ 1 ∷ 0 ∷ [])
     -- the lower number: half a gate and no value; a value too few and no room; half a gate and no room
-    ∷ evaluateCall (graphOf 1 (3 ∷ []) (2 ∷ [])) [] 1 gives (7 ∷ 99 ∷ [])
+    ∷ evaluateCall halfGate [] 1 gives (7 ∷ 99 ∷ [])
     ∷ evaluateCall oneGate (1 ∷ []) 1 gives (8 ∷ 99 ∷ [])
-    ∷ evaluateCall (graphOf 1 (3 ∷ []) (2 ∷ [])) (1 ∷ []) 0 gives (7 ∷ [])
+    ∷ evaluateCall halfGate (1 ∷ []) 0 gives (7 ∷ [])
     ∷ []

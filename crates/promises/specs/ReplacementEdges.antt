@@ -10,6 +10,7 @@ use Rattle.replacement.specs.declared.types.Proposal.{Proposal}
 use Rattle.replacement.specs.Proposal.{literal, andGate}
 use Rattle.promises.specs.Calls.{Example, _gives_, buffers, listCall, applyCall, runCall}
 use Rattle.promises.specs.Bench.{e1, e9, e11}
+use Rattle.promises.specs.Edges.{halfGate}
 
 -- leaves 1 and 2: the two inputs of most graphs here
 unfoldable both : Leaves
@@ -19,10 +20,6 @@ both = leavesOf (1 ∷ 2 ∷ [])
 -- a proposal by its four fields
 abbrev proposal : ℕ → ℕ → ℕ → ℕ → Proposal
 proposal k a b c = record { kind = k; first = record { 0 = a }; second = record { 0 = b }; turned = c }
-
--- half a gate
-abbrev halfGate : Graph
-halfGate = graphOf 1 (3 ∷ []) (2 ∷ [])
 
 -- gates 2 and 3 are both the input
 abbrev twice : Graph

@@ -8,15 +8,12 @@ use Rattle.window.specs.Leaves.{numbers, variables, leavesOf}
 use Rattle.window.specs.Calls.{pickAnswer, tableAnswer}
 use Rattle.promises.specs.Calls.{Example, _gives_, pickCall, tableCall}
 use Rattle.promises.specs.Bench.{e1}
+use Rattle.promises.specs.Edges.{halfGate}
 
 -- the count and the six places of a leaf set
 unfoldable countAndPlaces : Leaves → List ℕ
 unfolding numbers
 countAndPlaces w = w .count ∷ numbers (w .places)
-
--- half a gate
-abbrev halfGate : Graph
-halfGate = graphOf 1 (3 ∷ []) (2 ∷ [])
 
 -- the AND of seven inputs, one after another: gates 8 to 13
 abbrev sevenInputs : Graph
