@@ -33,7 +33,7 @@ pub const RUN: [Sort<Run>; 11] = [
     (3, "one replacement, gates left", |_, told| {
         made(told) == Some(1) && leaves_gates(told)
     }),
-    (3, "two replacements or more, gates left", |_, told| {
+    (2, "two replacements or more, gates left", |_, told| {
         made(told) >= Some(2) && leaves_gates(told)
     }),
     (6, "replacements until no gate is left", |_, told| {
