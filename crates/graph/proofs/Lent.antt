@@ -8,11 +8,12 @@ use native.Mathlib.Omega.{arith}
 use lib.ListN.{length, set, length-append, length-set, getD, take, drop}
 use lib.Seq.{set-comm, sets, sets-eq, length-sets, length-take-le, take-at, paste, paste-suc}
 use Rattle.graph.specs.Lists.{gather}
-use Rattle.graph.specs.Lent.{written, laid, short, Buffers, noRoomFor, NoRoomFor, few-gate-words, few-output-words, RoomFor}
+use Rattle.graph.specs.Lent.{written, laid, short, Buffers, noRoomFor, RoomFor}
+use Rattle.graph.proofs.Lists.{true-or-false}
 use Rattle.graph.proofs.Gather.{gather-more}
 use Rattle.graph.specs.Graph.{largerFirst, Graph}
-use mathlib.Core.Bool.{true, false}
-use mathlib.Core.Logic.{_↔_, _⊎_, inl, inr, ⊎-elim}
+use mathlib.Core.Bool.{true, false, false≢true}
+use mathlib.Core.Logic.{_↔_, inl, inr, ⊎-elim}
 use borrow.Author.Tests.{le-ltb}
 use Rattle.graph.proofs.Tests.{test-off, or-iff, ltb-iff}
 
@@ -22,32 +23,24 @@ pub short-iff : {A : Type 0} (need : ℕ) (lent : List A) → (short need lent �
 unfolding short
 short-iff need lent = ltb-iff (length lent) need
 
-pub no-room-iff : (g : Graph) (b : Buffers) → (noRoomFor g b ≡ true) ↔ NoRoomFor g b
-unfolding noRoomFor
-no-room-iff g b =
-    let either = or-iff _ _ (short-iff (length (g .net .gates)) (b .gates)) (short-iff (length (g .outputs)) (b .outputs)) in
-    (λ e. ⊎-elim few-gate-words few-output-words (either .0 e), λ n. either .1 (sides n))
-  where
-    sides : NoRoomFor g b → (length (b .gates) < length (g .net .gates)) ⊎ (length (b .outputs) < length (g .outputs))
-    sides (few-gate-words h) = inl h
-    sides (few-output-words h) = inr h
-
 pub room-iff : (g : Graph) (b : Buffers) → (noRoomFor g b ≡ false) ↔ RoomFor g b
+unfolding noRoomFor
 room-iff g b = (
   λ e.
-      let enough = test-off _ (no-room-iff g b) e in
-      record {
-        gates-fit = not-below _ _ (λ h. enough (few-gate-words h));
-        outputs-fit = not-below _ _ (λ h. enough (few-output-words h));
-      },
-  λ room. unfold noRoomFor short in rw (le-ltb _ _ (room .gates-fit), le-ltb _ _ (room .outputs-fit)),
+      let either = or-iff _ _ (short-iff (length (g .net .gates)) (b .gates)) (short-iff (length (g .outputs)) (b .outputs)) in
+      let enough = test-off _ either e in
+      record { gates-fit = not-below _ _ (λ h. enough (inl h)); outputs-fit = not-below _ _ (λ h. enough (inr h)) },
+  λ room. unfold short in rw (le-ltb _ _ (room .gates-fit), le-ltb _ _ (room .outputs-fit)),
 )
   where
     not-below : (m n : ℕ) → ¬ (m < n) → n ≤ m
     not-below m n f = omega arith
 
-pub room-or-none : (g : Graph) (b : Buffers) → RoomFor g b → ¬ NoRoomFor g b
-room-or-none g b room = test-off _ (no-room-iff g b) (room-iff g b .1 room)
+pub no-room-iff : (g : Graph) (b : Buffers) → (noRoomFor g b ≡ true) ↔ (¬ RoomFor g b)
+no-room-iff g b = (
+  λ e room. false≢true (sym (room-iff g b .1 room) ∙ e),
+  λ n. ⊎-elim (λ e. e) (λ e. absurd (n (room-iff g b .0 e))) (true-or-false (noRoomFor g b)),
+)
 
 -- ---- laid is stored element by element
 

@@ -1,6 +1,6 @@
 -- Lent lists: the room that a call needs, and what stands in them afterwards.
 -- Assumes nothing.
-use Prim.Native.Nat.{ℕ, _+_, _≤_, _<_}
+use Prim.Native.Nat.{ℕ, _+_, _≤_}
 use mathlib.Core.Bool.{Bool, _||_}
 use mathlib.Core.List.{List, _++_}
 use lib.Dec.{ltb}
@@ -32,11 +32,7 @@ unfoldable pub noRoomFor : Graph → Buffers → Bool
 unfolding short
 noRoomFor g b = short (length (g .net .gates)) (b .gates) || short (length (g .outputs)) (b .outputs)
 
--- the same as facts, and that they have the room
-pub data NoRoomFor (g : Graph) (b : Buffers) : Type 0 where
-  few-gate-words : length (b .gates) < length (g .net .gates) → NoRoomFor g b
-  few-output-words : length (b .outputs) < length (g .outputs) → NoRoomFor g b
-
+-- that they have the room, as facts
 pub record RoomFor (g : Graph) (b : Buffers) : Type 0 where
   pub gates-fit : length (g .net .gates) ≤ length (b .gates)
   pub outputs-fit : length (g .outputs) ≤ length (b .outputs)

@@ -10,7 +10,7 @@ use Rattle.graph.specs.Graph.{Net, Graph}
 use Rattle.graph.proofs.Members.{in-gather, in-left, in-right, in-same}
 use Rattle.window.specs.declared.leaf_set.Leaves.{Leaves}
 use Rattle.replacement.specs.declared.types.Proposal.{Proposal}
-use Rattle.replacement.specs.Proposal.{literal, andGate, Allowed, a-literal, an-and}
+use Rattle.replacement.specs.Proposal.{literal, andGate, AllowedByTest, a-literal, an-and}
 use Rattle.listing.specs.Listing.{candidates, candidateOf, Before, differs, same-then}
 use Rattle.graph.proofs.Each.{Each, each-one, each-gather}
 use Rattle.listing.proofs.Sorted.{Sorted, sorted-one, sorted-join, sorted-gather}
@@ -46,7 +46,7 @@ same-proposal : (p q : Proposal) → p .kind ≡ q .kind → p .first .0 ≡ q .
     → p ≡ q
 same-proposal p q e f s t = λ i. record { kind = e i; first = record { 0 = f i }; second = record { 0 = s i }; turned = t i }
 
-pub allowed-in : (net : Net) (root : ℕ) (w : Leaves) (p : Proposal) → Allowed net root w p → p ∈ candidates root
+pub allowed-in : (net : Net) (root : ℕ) (w : Leaves) (p : Proposal) → AllowedByTest net root w p → p ∈ candidates root
 allowed-in net root w p (a-literal k d s t) =
     in-same (same-proposal p (literal (p .first .0)) k refl s t) (literal-in root (p .first .0) (let h = d .below-root in omega arith))
 allowed-in net root w p (an-and k d d′ z l t) =

@@ -27,7 +27,7 @@ use Rattle.listing.specs.Listing.{
   proposalOf,
   Good,
   GoodReplacement,
-  GoodRecord,
+  GoodByTest,
   Before,
   IsTheList,
 }
@@ -38,7 +38,7 @@ use Rattle.listing.proofs.Candidates.{allowed-in, candidates-sorted}
 
 -- ---- good replacements and their records
 
-gain-positive : (z : ℤ) → atLeastOne z ≡ true → (z ≡ pos (natAbs z)) × (1 ≤ natAbs z)
+pub gain-positive : (z : ℤ) → atLeastOne z ≡ true → (z ≡ pos (natAbs z)) × (1 ≤ natAbs z)
 unfolding atLeastOne
 gain-positive (pos n) e = (refl, ltb-true 0 n e)
 gain-positive (negsuc n) e = absurd (false≢true e)
@@ -48,7 +48,7 @@ unfolding atLeastOne
 positive-gain z n e h = ap atLeastOne e ∙ lt-ltb 0 n h
 
 module _ (g : Graph) (root : ℕ) (w : Leaves) where
-  good-record : (p : Proposal) → good g root w p ≡ true → GoodRecord g root w (candidateOf g root p)
+  good-record : (p : Proposal) → good g root w p ≡ true → GoodByTest g root w (candidateOf g root p)
   unfolding good candidateOf equalTables sameTable
   good-record p e =
       let tests = and-right (allowed (g .net) root w p) _ e in
@@ -60,25 +60,25 @@ module _ (g : Graph) (root : ℕ) (w : Leaves) where
         at-least-one = positive .1;
       }
 
-  record-good : (x : Candidate) → GoodRecord g root w x → good g root w (proposalOf x) ≡ true
+  record-good : (x : Candidate) → GoodByTest g root w x → good g root w (proposalOf x) ≡ true
   unfolding good equalTables sameTable
   record-good x r =
       and-both _ _ (allowed-iff (g .net) root w (proposalOf x) .1 (r .keeps-rule))
       (and-both _ _ (eq-eqb _ _ (r .equals)) (positive-gain _ (x .gain) (r .gain-is) (r .at-least-one)))
 
-  record-is : (x : Candidate) → GoodRecord g root w x → x ≡ candidateOf g root (proposalOf x)
+  record-is : (x : Candidate) → GoodByTest g root w x → x ≡ candidateOf g root (proposalOf x)
   unfolding candidateOf
   record-is x r =
       ap (λ (z : ℤ). record { kind = x .kind; first = x .first; second = x .second; turned = x .turned; gain = natAbs z })
       (sym (r .gain-is))
 
-  listed-good : Each (GoodRecord g root w) (listed g root w)
+  listed-good : Each (GoodByTest g root w) (listed g root w)
   unfolding listed
   listed-good x m =
       let from = map-from (candidateOf g root) (keep (good g root w) (candidates root)) m in
-      subst (GoodRecord g root w) (sym (from .2)) (good-record (from .0) (keep-from (good g root w) (candidates root) (from .1) .1))
+      subst (GoodByTest g root w) (sym (from .2)) (good-record (from .0) (keep-from (good g root w) (candidates root) (from .1) .1))
 
-  good-listed : (x : Candidate) → GoodRecord g root w x → x ∈ listed g root w
+  good-listed : (x : Candidate) → GoodByTest g root w x → x ∈ listed g root w
   unfolding listed
   good-listed x r =
       let p = proposalOf x in
@@ -88,7 +88,7 @@ module _ (g : Graph) (root : ℕ) (w : Leaves) where
 
 -- ---- the list
 
-pub listed-is : (g : Graph) (root : ℕ) (w : Leaves) → IsTheList (GoodRecord g root w) (listed g root w)
+pub listed-is : (g : Graph) (root : ℕ) (w : Leaves) → IsTheList (GoodByTest g root w) (listed g root w)
 unfolding listed
 listed-is g root w = record {
   holds = λ x. (listed-good g root w x, good-listed g root w x);
@@ -97,7 +97,7 @@ listed-is g root w = record {
 
 -- at a gate the test of coverage and coverage itself come to the same
 module _ (g : Graph) (ok : Lawful g) (root : ℕ) (gate : IsGate (g .net) root) (w : Leaves) where
-  pub good-iff : (x : Candidate) → GoodRecord g root w x ↔ GoodReplacement g root w x
+  pub good-iff : (x : Candidate) → GoodByTest g root w x ↔ GoodReplacement g root w x
   good-iff x = (λ r. by (rule-iff g ok root gate w (proposalOf x) .0) r, λ r. by (rule-iff g ok root gate w (proposalOf x) .1) r)
     where
       by : {C D : ℕ → Type 0} → (RuleKept C root (proposalOf x) → RuleKept D root (proposalOf x)) → Good C g root w x → Good D g root w x
@@ -122,6 +122,6 @@ no-members [] h = refl
 no-members (x ∷ xs) h = absurd (h x (here refl))
 
 -- the list is empty if and only if there is no good replacement
-pub list-empty-iff : (g : Graph) (root : ℕ) (w : Leaves) → (listed g root w ≡ []) ↔ ((x : Candidate) → ¬ GoodRecord g root w x)
+pub list-empty-iff : (g : Graph) (root : ℕ) (w : Leaves) → (listed g root w ≡ []) ↔ ((x : Candidate) → ¬ GoodByTest g root w x)
 list-empty-iff g root w =
     (λ e x r. none-in (rw e at (good-listed g root w x r)), λ h. no-members (listed g root w) (λ x m. h x (listed-good g root w x m)))

@@ -63,8 +63,8 @@ abbrev pub GoodReplacement : Graph → ℕ → Leaves → Candidate → Type 0
 GoodReplacement g root w x = Good (Covered (g .net) w) g root w x
 
 -- by the test of coverage, which answers for any graph, root and leaves; at a gate of a lawful graph the same (`good-iff`)
-abbrev pub GoodRecord : Graph → ℕ → Leaves → Candidate → Type 0
-GoodRecord g root w x = Good (Tested (g .net) w) g root w x
+abbrev pub GoodByTest : Graph → ℕ → Leaves → Candidate → Type 0
+GoodByTest g root w x = Good (Tested (g .net) w) g root w x
 
 -- numbers compared one after another: the first that differ decide
 pub data Less : List ℕ → List ℕ → Type 0 where

@@ -1,28 +1,24 @@
 -- Demand 2, call by call: what an accepted call answers, and what its lent memory holds afterwards.
 -- Assumes nothing.
 use mathlib.Core.Path.{_≡_, refl, sym, ap, _∙_}
-use mathlib.Core.Bool.{Bool, true, false, false≢true, cond}
-use mathlib.Core.List.{List, map}
+use mathlib.Core.Bool.{Bool, true, false, false≢true}
+use mathlib.Core.List.{List}
 use mathlib.Core.Logic.{_↔_}
 use mathlib.Core.Option.{Option, none, some}
-use Prim.Native.Nat.{ℕ, _-_, _≤_, _<_}
+use Prim.Native.Nat.{ℕ, _-_, _≤_}
 use native.Mathlib.Omega.{arith}
 use lib.ListN.{length, getD, take, length-map}
 use Rattle.graph.specs.declared.refusal.Refusal.{Refusal}
 use Rattle.graph.specs.declared.refusal.Refusal.the-variants.{BadGraph, BadRoot, NoRoom}
-use Rattle.graph.specs.declared.evaluated.Evaluated.the-variants.{Outputs}
 use Rattle.graph.specs.declared.verdict.Verdict.{Verdict}
 use Rattle.graph.specs.Refuse.{firstRefusal, verdictOutcome}
 use Rattle.graph.specs.Lent.{short, Buffers, noRoomFor, storedIn}
-use Rattle.graph.specs.Graph.{Graph, size, sinks, WellFormed}
-use Rattle.graph.specs.Use.{usedGates}
+use Rattle.graph.specs.Graph.{Graph, sinks, WellFormed}
 use Rattle.graph.specs.Evaluate.{outputsUnder, assignmentOf, evaluateRefusals, evaluateEffect, evaluatedOutcome}
 use Rattle.graph.proofs.Graph.{well-formed-iff}
 use Rattle.graph.proofs.Use.{in-use-iff}
 use Rattle.graph.proofs.Refuse.{none-shown, numberOf-not-zero}
 use Rattle.graph.proofs.Tests.{eqb-iff}
-use Rattle.text.specs.declared.ReadText.{ReadText}
-use Rattle.text.specs.declared.WrittenText.{WrittenText}
 use Rattle.text.specs.States.{textOf}
 use Rattle.text.specs.Reading.{Stated, Reading, refuses, yields, reading}
 use Rattle.text.specs.Refusals.{WriteGiven}
@@ -37,21 +33,18 @@ use Rattle.window.specs.Calls.{RootGiven, rootRefusals, pickAnswer, pickOutcome
 use Rattle.window.proofs.Calls.{pick-answers, window-accepted}
 use Rattle.window.proofs.LeafRule.{picked-well-set, picked-cuts}
 use Rattle.replacement.specs.declared.types.Proposal.{Proposal}
-use Rattle.replacement.specs.declared.types.Applied.{Applied}
 use Rattle.replacement.specs.Rewire.{finished}
 use Rattle.replacement.specs.Calls.{GoodProposal, applyEffect, appliedOutcome}
 use Rattle.replacement.proofs.Calls.{apply-none-given, apply-accepted}
 use Rattle.listing.specs.declared.Candidate.{Candidate}
-use Rattle.listing.specs.declared.Listed.{Listed}
 use Rattle.listing.specs.Listing.{listed, GoodReplacement, IsTheList}
 use Rattle.listing.specs.Calls.{withList, listEffect, listedOutcome}
 use Rattle.listing.proofs.Listing.{listed-is-every-good}
-use Rattle.run.specs.declared.Ran.{Ran}
 use Rattle.run.specs.Run.{run}
 use Rattle.run.specs.Calls.{RunBuffers, RunGiven, filledIn, runEffect, ranOutcome}
 use Rattle.run.proofs.Run.{run-well-formed, run-no-larger}
 use Rattle.run.proofs.Calls.{run-answers, run-none-given, run-clears-work}
-use Rattle.promises.specs.Promises.{Keeps, NoneLeft, Stored, Holds, RunHolds}
+use Rattle.promises.specs.Promises.{Keeps, RunHolds, ReadAs, WrittenAs, EvaluatedAs, ListedAs, AppliedAs, RanAs}
 use Rattle.promises.proofs.Meaning.{run-keeps, replacement-keeps}
 use Rattle.promises.proofs.Search.{run-ends-with-none-left}
 use Rattle.promises.proofs.Stored.{stored-written, holds-stored, filled-all}
@@ -76,15 +69,11 @@ module _ (t : List ℕ) (b : Buffers) (accepted : (readOutcome ((readEffect t b)
       go (refuses r) e = absurd (numberOf-not-zero r (sym accepted ∙ rw (e, readEffect, withRoom)))
       go (yields g) e = (g, e, room g e (noRoomFor g b) refl)
 
-  pub read-stores-stated :
-      (g : Graph)
-      × Stated t g
-      × ((readEffect t b) .answer ≡ ReadText.Graph (g .net .inputs) (size (g .net)) (length (g .outputs)))
-      × Holds g b ((readEffect t b) .lent)
+  pub read-stores-stated : (g : Graph) × Stated t g × ReadAs g b (readEffect t b)
   read-stores-stated =
       let (g, e, room) = read-yields in
       let stated = reading-iff t g .0 e in
-      rw (reads-graph t b g e room) (g, stated, refl, holds-stored g b (stated .well-formed))
+      rw (reads-graph t b g e room) (g, stated, record { counts-told = refl; holds = holds-stored g b (stated .well-formed) })
 
 -- ---- writing
 
@@ -93,17 +82,15 @@ module _ (g : Graph) (lent : List ℕ) (accepted : (writtenOutcome ((writeEffect
   unfolding writeEffect writtenOutcome
   write-none = none-shown (firstRefusal (writeRefusals g lent)) _ (λ q e. rw (e, writeEffect)) accepted
 
-  pub write-stores-text :
-      WellFormed g × ((writeEffect g lent) .answer ≡ WrittenText.Bytes (length (textOf g)))
-      × Stored (textOf g) lent ((writeEffect g lent) .lent)
+  pub write-stores-text : WellFormed g × WrittenAs g lent (writeEffect g lent)
   unfolding writeEffect
   write-stores-text =
       let ok = decided _ (well-formed-iff g) (λ n. write-answers g lent .accepts .0 accepted BadGraph (WriteGiven.bad-graph n)) in
-      rw (write-none, writeEffect) (ok, refl, stored-written (textOf g) lent)
+      rw (write-none, writeEffect) (ok, record { count-told = refl; stored = stored-written (textOf g) lent })
 
   -- the bytes written are read back as the graph
   pub write-then-read : reading (take (length (textOf g)) ((writeEffect g lent) .lent)) ≡ yields g
-  write-then-read = let (ok, _, stored) = write-stores-text in ap reading (stored .first-places) ∙ round-trip g ok
+  write-then-read = let (ok, written-as) = write-stores-text in ap reading (written-as .stored .first-places) ∙ round-trip g ok
 
 -- ---- evaluating
 
@@ -122,11 +109,9 @@ module _ (g : Graph) (vs lent : List ℕ) (accepted : (evaluatedOutcome ((evalua
   unfolding evaluateEffect evaluatedOutcome
   evaluate-none = none-shown (firstRefusal (evaluateRefusals g vs lent)) _ (λ q e. rw (e, evaluateEffect)) accepted
 
-  pub evaluate-stores-outputs :
-      ((evaluateEffect g vs lent) .answer ≡ Outputs (length (sinks g)))
-      × Stored (map (λ b. cond b 1 0) (outputsUnder g (assignmentOf vs))) lent ((evaluateEffect g vs lent) .lent)
+  pub evaluate-stores-outputs : EvaluatedAs g vs lent (evaluateEffect g vs lent)
   unfolding evaluateEffect
-  evaluate-stores-outputs = rw (evaluate-none, evaluateEffect) (refl, stored-written _ lent)
+  evaluate-stores-outputs = rw (evaluate-none, evaluateEffect) (record { count-told = refl; stored = stored-written _ lent })
 
 -- ---- picking leaves, and the root's table
 
@@ -175,38 +160,39 @@ module _ (g : Graph) (root : ℕ) (w : Leaves) (lent : List Candidate)
       go none e false h = (e, h)
 
   pub list-stores-the-list :
-      ((listEffect g root w lent) .answer ≡ Listed.Records (length (listed g root w)))
-      × Stored (listed g root w) lent ((listEffect g root w lent) .lent)
+      ListedAs (listed g root w) lent (listEffect g root w lent)
       × IsTheList (GoodReplacement g root w) (listed g root w)
   unfolding listEffect withList
   list-stores-the-list =
       let (e, h) = list-none in
       let known = window-accepted g root w e in
       let list = listed-is-every-good g (known .graph .lawful) root (known .root-used .is-gate) w in
-      rw (e, listEffect, h, withList) (refl, stored-written (listed g root w) lent, list)
+      rw (e, listEffect, h, withList) (record { count-told = refl; stored = stored-written (listed g root w) lent }, list)
 
 -- ---- applying a proposal
 
 module _ (g : Graph) (root : ℕ) (w : Leaves) (p : Proposal) (b : Buffers)
     (accepted : (appliedOutcome ((applyEffect g root w p b) .answer)) .number ≡ 0) where
   -- only a good proposal is accepted
-  pub apply-stores-finished :
-      GoodProposal g root w p
-      × ((applyEffect g root w p b) .answer ≡ Applied.Graph (size (finished g root p .net)) (length (finished g root p .outputs)))
-      × Holds (finished g root p) b ((applyEffect g root w p b) .lent)
-      × Keeps g (finished g root p)
-      × (usedGates (finished g root p) < usedGates g)
+  pub apply-stores-finished : GoodProposal g root w p × AppliedAs g (finished g root p) b (applyEffect g root w p b)
   unfolding applyEffect
   apply-stores-finished =
       let good = apply-accepted g root w p b accepted in
       let kept = replacement-keeps g root w p good in
-      rw (apply-none-given g root w p b accepted, applyEffect)
-      (good, refl, holds-stored (finished g root p) b (kept .well-formed), kept, good .fewer)
+      rw (apply-none-given g root w p b accepted, applyEffect) (
+        good,
+        record {
+          counts-told = refl;
+          holds = holds-stored (finished g root p) b (kept .well-formed);
+          keeps = kept;
+          fewer = good .fewer;
+        },
+      )
 
 -- ---- the run
 
 -- a graph that keeps the outputs' values has as many outputs
-keeps-output-count : {g h : Graph} → Keeps g h → length (h .outputs) ≡ length (g .outputs)
+pub keeps-output-count : {g h : Graph} → Keeps g h → length (h .outputs) ≡ length (g .outputs)
 keeps-output-count {g} {h} k = let a : ℕ → Bool = λ v. false in sym (outputs-count h a) ∙ ap length (k .same-outputs a) ∙ outputs-count g a
 
 -- the run's words fit into the source graph's places
@@ -233,11 +219,11 @@ module _ (g : Graph) (b : RunBuffers) (accepted : (ranOutcome ((runEffect g b) .
     work-outputs-zero = rw (run-clears-work g b accepted) (stored-written _ _);
   }
 
-  pub run-stores-finished :
-      ((runEffect g b) .answer ≡ Ran.Finished (size (run g .graph .net)) (run g .made))
-      × RunHolds g (run g .graph) b ((runEffect g b) .lent)
-      × Keeps g (run g .graph)
-      × NoneLeft (run g .graph)
+  pub run-stores-finished : RanAs g (run g .graph) (run g .made) b (runEffect g b)
   unfolding runEffect
-  run-stores-finished =
-      (rw (run-none-given g b accepted, runEffect), run-stores, run-keeps g ok, run-ends-with-none-left g ok)
+  run-stores-finished = record {
+    counts-told = rw (run-none-given g b accepted, runEffect);
+    holds = run-stores;
+    keeps = run-keeps g ok;
+    none-left = run-ends-with-none-left g ok;
+  }

@@ -7,7 +7,7 @@ use Prim.Native.Nat.{ℕ, _≤_}
 use native.Mathlib.Omega.{arith}
 use lib.ListN.{length, take, length-take}
 use Rattle.graph.specs.declared.refusal.Refusal.{Refusal}
-use Rattle.graph.specs.Graph.{Graph, size, WellFormed}
+use Rattle.graph.specs.Graph.{Graph, WellFormed}
 use Rattle.graph.specs.Lent.{Buffers, RoomFor, Effect, _leaving_}
 use Rattle.text.specs.declared.ReadText.{ReadText}
 use Rattle.text.specs.declared.WrittenText.{WrittenText}
@@ -16,7 +16,7 @@ use Rattle.text.specs.Reading.{yields, reading, Stated}
 use Rattle.text.specs.Calls.{readEffect, readOutcome, writeEffect, writtenOutcome}
 use Rattle.text.proofs.Reading.{reading-iff}
 use Rattle.text.proofs.Refusals.{write-answers}
-use Rattle.promises.specs.Promises.{Holds, readBack}
+use Rattle.promises.specs.Promises.{ReadAs, readBack}
 use Rattle.promises.proofs.Granted.{stated-text-is-read, writing-has-no-refusal}
 use Rattle.promises.proofs.Accepted.{read-stores-stated, write-stores-text, write-then-read}
 
@@ -40,12 +40,8 @@ write-has-one-result g lent = one-effect
 module _ (t : List ℕ) (b after : Buffers) (r : ReadText) (met : r leaving after ≡ readEffect t b) where
   -- a text that states a graph within the limits is read as that graph, where there is room for it
   module _ (g : Graph) (stated : Stated t g) (room : RoomFor g b) where
-    pub stated-is-read : (r ≡ ReadText.Graph (g .net .inputs) (size (g .net)) (length (g .outputs))) × Holds g b after
-    stated-is-read =
-        let (answer, holds) = stated-text-is-read t b g stated room in (
-          ap (λ (e : Effect ReadText Buffers). e .answer) met ∙ answer,
-          subst⁻¹ (Holds g b) (ap (λ (e : Effect ReadText Buffers). e .lent) met) holds,
-        )
+    pub stated-is-read : ReadAs g b (r leaving after)
+    stated-is-read = subst⁻¹ (ReadAs g b) met (stated-text-is-read t b g stated room)
 
   -- and nothing else is read
   module _ (i a o : ℕ) (accepted : r ≡ ReadText.Graph i a o) where
@@ -56,11 +52,8 @@ module _ (t : List ℕ) (b after : Buffers) (r : ReadText) (met : r leaving afte
     unfolding readOutcome
     number-is = rw answer-is
 
-    pub read-was-stated : (g : Graph) × Stated t g
-        × (ReadText.Graph i a o ≡ ReadText.Graph (g .net .inputs) (size (g .net)) (length (g .outputs))) × Holds g b after
-    read-was-stated =
-        let (g, stated, answer, holds) = read-stores-stated t b number-is in
-        (g, stated, sym answer-is ∙ answer, subst⁻¹ (Holds g b) (ap (λ (e : Effect ReadText Buffers). e .lent) met) holds)
+    pub read-was-stated : (g : Graph) × Stated t g × ReadAs g b (r leaving after)
+    read-was-stated = let (g, stated, read-as) = read-stores-stated t b number-is in (g, stated, subst⁻¹ (ReadAs g b) met read-as)
 
 -- ---- written and read again
 
@@ -75,12 +68,14 @@ module _ (g : Graph) (lent bytes : List ℕ) (n : ℕ) (written-now : WrittenTex
 
   n-is : n ≡ length (textOf g)
   unfolding bytes-of
-  n-is = ap (λ (e : Effect WrittenText (List ℕ)). bytes-of (e .answer)) written-now ∙ ap bytes-of (write-stores-text g lent accepted .1)
+  n-is =
+      ap (λ (e : Effect WrittenText (List ℕ)). bytes-of (e .answer)) written-now
+      ∙ ap bytes-of (write-stores-text g lent accepted .1 .count-told)
 
   -- the bytes written are among those lent
   pub written-is-within : n ≤ length bytes
   written-is-within =
-      let stored = ap length (write-stores-text g lent accepted .2 .first-places) in
+      let stored = ap length (write-stores-text g lent accepted .1 .stored .first-places) in
       let same = ap (λ (e : Effect WrittenText (List ℕ)). length (e .lent)) written-now in
       omega (arith, n-is, simp length-take at stored)
 
@@ -92,7 +87,7 @@ module _ (g : Graph) (lent bytes : List ℕ) (n : ℕ) (written-now : WrittenTex
   read-back = rw (n-is, ap (λ (e : Effect WrittenText (List ℕ)). e .lent) written-now) (write-then-read g lent accepted)
 
   pub written-and-read-again : (b after : Buffers) (r : ReadText) → r leaving after ≡ readEffect (take n bytes) b → RoomFor g b
-      → (r ≡ ReadText.Graph (g .net .inputs) (size (g .net)) (length (g .outputs))) × Holds g b after
+      → ReadAs g b (r leaving after)
   written-and-read-again b after r met = stated-is-read (take n bytes) b after r met g (reading-iff (take n bytes) g .0 read-back)
 
 pub not-read-back : (g : Graph) (lent bytes : List ℕ) (q : Refusal) (b : Buffers)

@@ -4,7 +4,7 @@ use mathlib.Core.Path.{refl}
 use Rattle.promises.specs.Calls.{Agrees}
 use Rattle.promises.specs.Edges.{readEdges, writeEdges, evaluateEdges}
 use Rattle.promises.specs.WindowEdges.{pickEdges, tableEdges}
-use Rattle.promises.specs.ReplacementEdges.{listEdges, applyEdges, runEdges, runSteps, runChoices}
+use Rattle.promises.specs.ReplacementEdges.{listEdges, applyEdges, runEdges, runRestarts, runChoices}
 
 pub read-edges-agree : Agrees readEdges
 unfolding readEdges
@@ -38,9 +38,9 @@ pub run-edges-agree : Agrees runEdges
 unfolding runEdges
 run-edges-agree = refl
 
-pub run-steps-agree : Agrees runSteps
-unfolding runSteps
-run-steps-agree = refl
+pub run-restarts-agree : Agrees runRestarts
+unfolding runRestarts
+run-restarts-agree = refl
 
 pub run-choices-agree : Agrees runChoices
 unfolding runChoices

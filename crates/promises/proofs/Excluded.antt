@@ -1,51 +1,71 @@
--- What the promises exclude, by example: a graph with another output, any other list, a run that hands back its input.
+-- What the promises exclude, each by an example that breaks one clause alone.
 -- Assumes nothing.
-use mathlib.Core.Path.{_≡_, refl, sym, ap}
+use mathlib.Core.Path.{refl, sym, ap}
 use mathlib.Core.Bool.{Bool, true, false, false≢true}
 use mathlib.Core.List.{List, [], _∷_}
+use Prim.Native.Nat.{ℕ}
+use native.Mathlib.Omega.{arith}
 use lib.ListN.{getD}
-use Rattle.graph.specs.Lists.{here}
-use Rattle.graph.specs.Graph.{wellFormed, WellFormed}
+use Rattle.graph.specs.declared.refusal.Refusal.{Refusal}
+use Rattle.graph.specs.declared.refusal.Refusal.the-variants.{NoRoom}
+use Rattle.graph.specs.Graph.{Graph, graphOf}
 use Rattle.graph.specs.Evaluate.{outputsUnder}
-use Rattle.graph.specs.Use.{inUse, InUse}
-use Rattle.graph.proofs.Graph.{well-formed-iff}
+use Rattle.graph.specs.Use.{inUse}
 use Rattle.graph.proofs.Use.{in-use-iff}
-use Rattle.window.specs.LeafRule.{picked}
-use Rattle.listing.specs.declared.Candidate.{Candidate}
-use Rattle.listing.specs.Listing.{listed, fields, GoodReplacement, IsTheList}
-use Rattle.listing.proofs.Listing.{listed-is-every-good, the-list}
-use Rattle.promises.specs.Promises.{Keeps, NoneLeft}
+use Rattle.run.specs.Calls.{RunBuffers}
+use Rattle.promises.specs.Calls.{buffers}
+use Rattle.promises.specs.Promises.{Settled, Keeps, NoneLeft, Stored, RunHolds}
 use Rattle.promises.specs.Bench.{e1, e9, e10}
+use Rattle.promises.proofs.OnE1.{root-used, by-variable-3}
+
+at : ℕ → List ℕ → ℕ
+at j xs = getD xs j 0
+
+-- ---- demand 1
+
+-- NO ROOM, and a word is written all the same
+pub refusal-that-writes : (rank : Refusal → ℕ) (given : Refusal → Type 0) → ¬ Settled {L = List ℕ} rank given 16 (1 ∷ []) (2 ∷ [])
+unfolding at
+refusal-that-writes rank given s = let e = ap (at 0) (s .writes-nothing NoRoom refl) in omega arith
+
+-- ---- demand 2
 
 -- P9 and P10 have the same gate, and their outputs differ in the complement alone
-pub complement-is-not-kept : ¬ Keeps e9 e10
+pub other-output : ¬ Keeps e9 e10
 unfolding e9 e10 outputsUnder
-complement-is-not-kept k = false≢true (sym (ap (λ (bs : List Bool). getD bs 0 true) (k .same-outputs (λ v. false))))
+other-output k = false≢true (sym (ap (λ (bs : List Bool). getD bs 0 true) (k .same-outputs (λ v. false))))
 
--- ---- E1's root 4 over the leaves that the rule picks
+-- the same output over an input more
+pub other-inputs : ¬ Keeps (graphOf 1 [] (2 ∷ [])) (graphOf 2 [] (2 ∷ []))
+other-inputs k = let e = k .same-inputs in omega arith
 
-e1-well-formed : WellFormed e1
-unfolding wellFormed e1
-e1-well-formed = well-formed-iff e1 .0 refl
+-- the same output beside a gate that nothing needs
+abbrev idle : Graph
+idle = graphOf 2 (4 ∷ 2 ∷ []) (2 ∷ [])
 
-root-used : InUse e1 4
-unfolding inUse e1
-root-used = in-use-iff e1 (e1-well-formed .lawful) 4 .0 refl
+pub idle-gate : ¬ Keeps (graphOf 2 [] (2 ∷ [])) idle
+unfolding inUse
+idle-gate k =
+    let used = k .all-in-use 3 (record { above = omega arith; within = omega arith }) in
+    false≢true (in-use-iff idle (k .well-formed .lawful) 3 .1 used)
 
-abbrev IsGood : Candidate → Type 0
-IsGood x = GoodReplacement e1 4 (picked (e1 .net) 4) x
+-- a place past the words stored that is changed
+pub later-place-changed : ¬ Stored {A = ℕ} (1 ∷ []) (0 ∷ 3 ∷ []) (1 ∷ 4 ∷ [])
+unfolding at
+later-place-changed s = let e = ap (at 0) (s .past-them) in omega arith
 
-e1-listed : IsTheList IsGood (listed e1 4 (picked (e1 .net) 4))
-e1-listed = listed-is-every-good e1 (e1-well-formed .lawful) 4 (root-used .is-gate) (picked (e1 .net) 4)
+-- a word that is not stored
+pub first-place-wrong : ¬ Stored {A = ℕ} (1 ∷ []) (0 ∷ []) (0 ∷ [])
+unfolding at
+first-place-wrong s = let e = ap (at 0) (s .first-places) in omega arith
 
--- P3's two records, and no other list
-pub one-list-of-e1 : (xs : List Candidate) → IsTheList IsGood xs → fields xs ≡ 0 ∷ 6 ∷ 0 ∷ 0 ∷ 1 ∷ 1 ∷ 4 ∷ 2 ∷ 0 ∷ 1 ∷ []
-unfolding e1 picked listed fields
-one-list-of-e1 xs all = ap fields (the-list xs (listed e1 4 (picked (e1 .net) 4)) all e1-listed)
+-- a work area that is left as it was
+pub work-left : (h : Graph) (result : RunBuffers) → ¬ RunHolds e1 h result (record { result = result .result; work = buffers 4 1 })
+unfolding at e1
+work-left h b r = let e = ap (at 0) (r .work-gates-zero .first-places) in omega arith
 
--- the gate of variable 3 can stand for the root, so a run does not end here
+-- ---- demand 3
+
+-- the gate of variable 3 can stand for E1's root, so a run does not end there
 pub e1-is-not-finished : ¬ NoneLeft e1
-unfolding e1 picked listed
-e1-is-not-finished none =
-    let x : Candidate = record { kind = 0; first = 6; second = 0; turned = 0; gain = 1 } in
-    none 4 (root-used .is-gate) x (e1-listed .holds x .0 (here refl))
+e1-is-not-finished none = none 4 (root-used .is-gate) _ by-variable-3

@@ -6,5 +6,6 @@ pub mod Search
 pub mod Stored
 pub mod Accepted
 pub mod Granted
+pub mod OnE1
 pub mod Excluded
 pub mod Contracts

@@ -9,7 +9,7 @@ use native.Mathlib.Omega.{arith}
 use lib.ListN.{length}
 use Rattle.graph.specs.Lists.{gather, keep}
 use Rattle.graph.specs.Literal.{varOf}
-use Rattle.graph.specs.Graph.{Graph, free, size, first, second, IsGate, WellFormed, Lawful}
+use Rattle.graph.specs.Graph.{Net, Graph, free, size, first, second, IsGate, WellFormed, Lawful}
 use Rattle.graph.specs.Sweep.{bools, turned}
 use Rattle.graph.specs.Evaluate.{valueUnder, literalUnder, outputsUnder}
 use Rattle.graph.specs.Use.{Reached, InUse, marks, inUse, usedGates}
@@ -62,23 +62,24 @@ written-is-read-back = round-trip
 
 -- ---- what a graph computes: the values that `Keeps` is about
 
-module _ (g : Graph) (ok : WellFormed g) (a : ℕ → Bool) where
-  pub zero-is-false : valueUnder (g .net) a 0 ≡ false
-  zero-is-false = value-zero (g .net) a
+module _ (net : Net) (a : ℕ → Bool) where
+  pub zero-is-false : valueUnder net a 0 ≡ false
+  zero-is-false = value-zero net a
 
-  pub an-input-has-its-assigned-value : (v : ℕ) → 0 < v → v ≤ free (g .net) → valueUnder (g .net) a v ≡ a v
-  an-input-has-its-assigned-value = value-input (g .net) a
+  pub an-input-has-its-assigned-value : (v : ℕ) → 0 < v → v ≤ free net → valueUnder net a v ≡ a v
+  an-input-has-its-assigned-value = value-input net a
 
-  pub a-literal-is-its-variable : (v : ℕ) → literalUnder (g .net) a (2 * v) ≡ valueUnder (g .net) a v
+  pub a-literal-is-its-variable : (v : ℕ) → literalUnder net a (2 * v) ≡ valueUnder net a v
   unfolding turned
   a-literal-is-its-variable v =
       let even : (2 * v) % 2 ≡ 0 = omega arith in let var : varOf (2 * v) ≡ v = omega arith in rw (even, var)
 
-  pub an-odd-literal-is-the-complement : (v : ℕ) → literalUnder (g .net) a (2 * v + 1) ≡ not (valueUnder (g .net) a v)
+  pub an-odd-literal-is-the-complement : (v : ℕ) → literalUnder net a (2 * v + 1) ≡ not (valueUnder net a v)
   unfolding turned bools
   an-odd-literal-is-the-complement v =
       let odd : (2 * v + 1) % 2 ≡ 1 = omega arith in let var : varOf (2 * v + 1) ≡ v = omega arith in rw (odd, var)
 
+module _ (g : Graph) (ok : WellFormed g) (a : ℕ → Bool) where
   pub a-gate-is-the-and-of-its-literals : (v : ℕ) → IsGate (g .net) v
       → valueUnder (g .net) a v ≡ literalUnder (g .net) a (first (g .net) v) && literalUnder (g .net) a (second (g .net) v)
   a-gate-is-the-and-of-its-literals v gate =
@@ -111,14 +112,14 @@ keeps g h inputs same ok all = record {
 }
 
 -- dropping the gates not in use
+pub dropped-has-R-gates : (g : Graph) → size (dropped g .net) ≡ usedGates g
+dropped-has-R-gates = dropped-size
+
 module _ (g : Graph) (ok : WellFormed g) where
   pub dropped-keeps : Keeps g (dropped g)
   dropped-keeps =
       keeps g (dropped g) (dropped-free g) (dropped-keeps-outputs g (ok .lawful)) (dropped-well-formed g ok)
       (dropped-all-reached g (ok .lawful))
-
-  pub dropped-has-R-gates : size (dropped g .net) ≡ usedGates g
-  dropped-has-R-gates = dropped-size g
 
   pub dropped-keeps-R : usedGates (dropped g) ≡ usedGates g
   dropped-keeps-R = dropped-uses g (ok .lawful)

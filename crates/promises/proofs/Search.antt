@@ -4,10 +4,12 @@ use mathlib.Core.Path.{_≡_}
 use mathlib.Core.Bool.{Bool, true}
 use mathlib.Core.List.{List, [], _∷_}
 use mathlib.Core.Logic.{_↔_}
-use Prim.Native.Nat.{ℕ, _≤_, _<_}
+use Prim.Native.Nat.{ℕ, _+_, _≤_, _<_}
+use native.Mathlib.Omega.{arith}
 use lib.ListN.{length, getD}
 use Rattle.graph.specs.Lists.{_∈_}
 use Rattle.graph.specs.Graph.{Net, Graph, free, last, IsGate, WellFormed}
+use Rattle.graph.specs.Use.{usedGates}
 use Rattle.graph.specs.Drop.{dropped}
 use Rattle.graph.specs.Evaluate.{valueUnder}
 use Rattle.window.specs.declared.leaf_set.Leaves.{Leaves}
@@ -19,12 +21,17 @@ use Rattle.window.proofs.Local.{covered-iff, covered-value}
 use Rattle.window.proofs.Table.{table-bit}
 use Rattle.window.proofs.Patterns.{equal-tables-equal-functions}
 use Rattle.window.proofs.LeafRule.{rule-follows, rule-only, picked-well-set, picked-cuts, picked-no-expansion}
+use Rattle.window.specs.Calls.{Window}
+use Rattle.replacement.specs.declared.types.Proposal.{Proposal}
+use Rattle.replacement.specs.Rewire.{finished, gain}
+use Rattle.replacement.specs.Calls.{GoodProposal}
+use Rattle.replacement.proofs.Gain.{gain-iff, falls-by-gain}
 use Rattle.listing.specs.declared.Candidate.{Candidate}
-use Rattle.listing.specs.Listing.{listed, GoodReplacement, GoodRecord, Ascending, IsTheList}
-use Rattle.listing.proofs.Listing.{listed-is, good-iff, listed-is-every-good, the-list}
+use Rattle.listing.specs.Listing.{candidateOf, listed, proposalOf, GoodReplacement, GoodByTest, Ascending, IsTheList}
+use Rattle.listing.proofs.Listing.{gain-positive, listed-is, listed-is-every-good, the-list}
 use Rattle.listing.proofs.Order.{ascending-once}
 use Rattle.run.specs.Run.{run, Steps}
-use Rattle.run.proofs.Run.{run-steps, run-ends, run-well-formed}
+use Rattle.run.proofs.Run.{run-steps, run-ends}
 use Rattle.run.proofs.Once.{run-only}
 use Rattle.promises.specs.Promises.{NoneLeft}
 
@@ -75,7 +82,7 @@ pub list-is-the-list : (g : Graph) → WellFormed g → (root : ℕ) → IsGate 
 list-is-the-list g ok root gate w = listed-is-every-good g (ok .lawful) root gate w
 
 -- for any graph, root and leaves whatever, by the test of coverage
-pub list-is-what-passes : (g : Graph) (root : ℕ) (w : Leaves) → IsTheList (GoodRecord g root w) (listed g root w)
+pub list-is-what-passes : (g : Graph) (root : ℕ) (w : Leaves) → IsTheList (GoodByTest g root w) (listed g root w)
 list-is-what-passes = listed-is
 
 -- and there is no other
@@ -84,6 +91,27 @@ list-is-one = the-list
 
 pub nothing-is-listed-twice : {x : Candidate} {xs : List Candidate} → Ascending (x ∷ xs) → ¬ (x ∈ xs)
 nothing-is-listed-twice = ascending-once
+
+-- ---- the list and applying speak of the same replacements
+
+module _ (g : Graph) (root : ℕ) (w : Leaves) where
+  -- R falls by the gain that the record has
+  pub good-record-falls-by-its-gain : (x : Candidate) → GoodReplacement g root w x
+      → usedGates (finished g root (proposalOf x)) + x .gain ≡ usedGates g
+  good-record-falls-by-its-gain x good = falls-by-gain g root (proposalOf x) (x .gain) (good .gain-is) (good .at-least-one)
+
+  pub good-record-is-a-good-proposal : Window g root w → (x : Candidate) → GoodReplacement g root w x
+      → GoodProposal g root w (proposalOf x)
+  good-record-is-a-good-proposal known x good =
+      let falls = good-record-falls-by-its-gain x good in
+      let one = good .at-least-one in
+      record { window = known; rule = good .keeps-rule; equal = good .equals; fewer = omega arith }
+
+  pub good-proposal-has-a-good-record : (p : Proposal) → GoodProposal g root w p → GoodReplacement g root w (candidateOf g root p)
+  unfolding candidateOf
+  good-proposal-has-a-good-record p good =
+      let (is, one) = gain-positive (gain g root p) (gain-iff g root p .1 (good .fewer)) in
+      record { keeps-rule = good .rule; equals = good .equal; gain-is = is; at-least-one = one }
 
 -- ---- the run
 
@@ -97,6 +125,4 @@ module _ (g : Graph) (ok : WellFormed g) where
   run-is-one = run-only g ok
 
   pub run-ends-with-none-left : NoneLeft (run g .graph)
-  run-ends-with-none-left v gate x good =
-      let h = run g .graph in
-      run-ends g ok v gate x (good-iff h (run-well-formed g ok .lawful) v gate (picked (h .net) v) x .1 good)
+  run-ends-with-none-left = run-ends g ok

@@ -2,14 +2,14 @@
 -- Assumes nothing.
 use mathlib.Core.Path.{_≡_, sym, _∙_}
 use mathlib.Core.List.{List}
-use Prim.Native.Nat.{ℕ, _-_, _≤_, _<_}
+use Prim.Native.Nat.{ℕ, _-_, _≤_}
 use native.Mathlib.Omega.{arith}
-use lib.ListN.{length, getD, replicate, length-append, length-replicate, getD-replicate}
+use lib.ListN.{length, replicate, length-append, length-replicate}
 use lib.Seq.{take-all, take-append-seam, drop-append-seam}
 use Rattle.graph.specs.Lists.{filled}
 use Rattle.graph.specs.Lent.{written, Buffers, storedIn}
 use Rattle.graph.specs.Graph.{Graph, WellFormed}
-use Rattle.graph.proofs.Lists.{filled-first, filled-past}
+use Rattle.graph.proofs.Lists.{filled-first}
 use Rattle.promises.specs.Promises.{Stored, Holds}
 
 -- ---- words written into a lent list
@@ -30,10 +30,6 @@ holds-stored h b ok = record {
 -- ---- words filled up with 0 to n places
 
 module _ (n : ℕ) (xs : List ℕ) where
-  -- 0 stands in the places after them, whatever would be read past the end
-  pub filled-zero : (j d : ℕ) → length xs ≤ j → j < n → getD (filled n xs) j d ≡ 0
-  filled-zero j d h l = filled-past n xs j d h ∙ getD-replicate (n - length xs) (j - length xs) 0 d (omega arith)
-
   pub filled-as-long : length xs ≤ n → length (filled n xs) ≡ n
   unfolding filled
   filled-as-long h = omega (arith, length-append xs (replicate (n - length xs) 0), length-replicate {A = ℕ} (n - length xs) 0)

@@ -13,10 +13,10 @@ unfoldable pub answerTo : String → List ℕ
 unfolding bytes readCall
 answerTo s = readCall (bytes s) (buffers 0 0)
 
--- this many bytes: the empty graph's text, and a rest of the letter `c`
-unfoldable pub restOf : ℕ → List ℕ
+-- the empty graph's text of 14 bytes, and a rest of so many letters `c`
+unfoldable pub withRest : ℕ → List ℕ
 unfolding bytes
-restOf n = bytes "aag 0 0 0 0 0\n" ++ replicate n 99
+withRest n = bytes "aag 0 0 0 0 0\n" ++ replicate n 99
 
 -- half a gate: not well formed
 abbrev pub halfGate : Graph
@@ -31,14 +31,14 @@ abbrev threeOutputs : String
 threeOutputs = "aag 3 2 0 3 1\n2\n4\n6\n7\n0\n6 2 5\n"
 
 unfoldable pub readEdges : List Example
-unfolding answerTo restOf bytes readCall
+unfolding answerTo withRest bytes readCall
 readEdges =
     -- the limits of the header: past them TOO LARGE, within them the lines are missing
     (answerTo "aag 65 65 0 0 0\n" ++ answerTo "aag 64 64 0 0 0\n") gives (2 ∷ 5 ∷ [])
     ∷ (answerTo "aag 0 0 0 65 0\n" ++ answerTo "aag 0 0 0 64 0\n") gives (2 ∷ 5 ∷ [])
     ∷ (answerTo "aag 1025 0 0 0 1025\n" ++ answerTo "aag 1024 0 0 0 1024\n") gives (2 ∷ 5 ∷ [])
     -- 65,536 bytes and 65,535
-    ∷ (readCall (restOf 65522) (buffers 0 0) ++ readCall (restOf 65521) (buffers 0 0)) gives (2 ∷ 0 ∷ 0 ∷ 0 ∷ 0 ∷ [])
+    ∷ (readCall (withRest 65522) (buffers 0 0) ++ readCall (withRest 65521) (buffers 0 0)) gives (2 ∷ 0 ∷ 0 ∷ 0 ∷ 0 ∷ [])
     -- a number above 4,294,967,295 or with a leading zero has the wrong shape
     ∷ (answerTo "aag 4294967296 0 0 0 0\n" ++ answerTo "aag 4294967295 0 0 0 0\n") gives (1 ∷ 4 ∷ [])
     ∷ (answerTo "aag 00 0 0 0 0\n" ++ answerTo "aag 1 1 0 0 0\n02\n") gives (1 ∷ 5 ∷ [])
@@ -73,7 +73,7 @@ writeEdges =
     (writeCall (graphOf 65 [] []) 0 ++ writeCall (graphOf 64 [] []) 0) gives (7 ∷ 16 ∷ [])
     ∷ (writeCall (graphOf 0 [] (replicate 65 0)) 0 ++ writeCall (graphOf 0 [] (replicate 64 0)) 0) gives (7 ∷ 16 ∷ [])
     -- half a gate; the smaller literal first; two equal literals
-    ∷ (writeCall (graphOf 1 (3 ∷ []) []) 0 ++ writeCall (graphOf 1 (2 ∷ 3 ∷ []) []) 0 ++ writeCall (graphOf 1 (2 ∷ 2 ∷ []) []) 0)
+    ∷ (writeCall halfGate 0 ++ writeCall (graphOf 1 (2 ∷ 3 ∷ []) []) 0 ++ writeCall (graphOf 1 (2 ∷ 2 ∷ []) []) 0)
     gives (7 ∷ 7 ∷ 16 ∷ [])
     -- a fanin just below the gate's own literal, and that literal
     ∷ (writeCall (graphOf 1 (3 ∷ 0 ∷ []) []) 0 ++ writeCall (graphOf 1 (4 ∷ 0 ∷ []) []) 0) gives (16 ∷ 7 ∷ [])
@@ -106,6 +106,9 @@ evaluateEdges =
     ∷ evaluateCall oneGate (1 ∷ 0 ∷ 0 ∷ []) 2 gives (8 ∷ 99 ∷ 99 ∷ [])
     -- one place less than there are outputs, and just enough
     ∷ (evaluateCall oneGate (1 ∷ 0 ∷ []) 1 ++ evaluateCall oneGate (1 ∷ 0 ∷ []) 2) gives (16 ∷ 99 ∷ 0 ∷ 2 ∷ 1 ∷ 0 ∷ [])
+    -- 1,025 gates are not well formed; with 1,024 only the value is too much
+    ∷ (evaluateCall (graphOf 0 (replicate 2050 0) []) (1 ∷ []) 0 ++ evaluateCall (graphOf 0 (replicate 2048 0) []) (1 ∷ []) 0)
+    gives (7 ∷ 8 ∷ [])
     -- the lower number: half a gate and no value; a value too few and no room; half a gate and no room
     ∷ evaluateCall halfGate [] 1 gives (7 ∷ 99 ∷ [])
     ∷ evaluateCall oneGate (1 ∷ []) 1 gives (8 ∷ 99 ∷ [])

@@ -2,8 +2,8 @@
 -- Assumes nothing.
 use Prim.Native.Nat.{ℕ, _*_, _≤_, _<_}
 use mathlib.Core.Path.{_≡_}
-use mathlib.Core.Bool.{Bool}
-use mathlib.Core.List.{List}
+use mathlib.Core.Bool.{Bool, cond}
+use mathlib.Core.List.{List, map}
 use lib.ListN.{length, take, drop, replicate}
 use Rattle.graph.specs.declared.refusal.Refusal.{Refusal}
 use Rattle.graph.specs.Refuse.{numberOf, Answers}
@@ -11,15 +11,18 @@ use Rattle.graph.specs.Lists.{filled}
 use Rattle.graph.specs.Lent.{Buffers, RoomFor, Effect, _leaving_}
 use Rattle.graph.specs.Literal.{varOf}
 use Rattle.graph.specs.Graph.{Graph, size, first, second, IsGate, WellFormed}
-use Rattle.graph.specs.Evaluate.{outputsUnder}
-use Rattle.graph.specs.Use.{InUse}
+use Rattle.graph.specs.declared.evaluated.Evaluated.{Evaluated}
+use Rattle.graph.specs.Evaluate.{outputsUnder, assignmentOf}
+use Rattle.graph.specs.Use.{InUse, usedGates}
 use Rattle.text.specs.declared.ReadText.{ReadText}
 use Rattle.text.specs.declared.WrittenText.{WrittenText}
 use Rattle.text.specs.States.{textOf}
 use Rattle.text.specs.Calls.{readEffect}
-use Rattle.window.specs.LeafRule.{picked}
+use Rattle.replacement.specs.declared.types.Applied.{Applied}
 use Rattle.listing.specs.declared.Candidate.{Candidate}
-use Rattle.listing.specs.Listing.{GoodReplacement}
+use Rattle.listing.specs.declared.Listed.{Listed}
+use Rattle.run.specs.declared.Ran.{Ran}
+use Rattle.run.specs.Run.{NoneAt}
 use Rattle.run.specs.Calls.{RunBuffers}
 
 -- demand 1: the call's number is the one that the order of refusals selects, and a refusal writes nothing into lent memory
@@ -41,9 +44,9 @@ pub record Keeps (g h : Graph) : Type 0 where
 
 -- demand 3: no gate of h has a good replacement over the leaves that the rule picks
 abbrev pub NoneLeft : Graph → Type 0
-NoneLeft h = (v : ℕ) → IsGate (h .net) v → (x : Candidate) → ¬ GoodReplacement h v (picked (h .net) v) x
+NoneLeft h = (v : ℕ) → IsGate (h .net) v → NoneAt h v
 
--- ---- what an accepted call leaves in lent memory
+-- ---- what stands in lent memory
 
 -- these words stand in the first places, and the places past them keep their contents
 pub record Stored {A : Type 0} (xs before after : List A) : Type 0 where
@@ -56,13 +59,54 @@ pub record Holds (h : Graph) (before after : Buffers) : Type 0 where
   pub gates-stored : Stored (h .net .gates) (before .gates) (after .gates)
   pub outputs-stored : Stored (h .outputs) (before .outputs) (after .outputs)
 
--- the lists lent to a run over g that came to h: of the places that g's words need, the first of the result hold h, and all others 0
+-- the lists lent to a run over g that came to h: the result's needed places hold h and then 0, the work area's needed places hold 0
 pub record RunHolds (g h : Graph) (before after : RunBuffers) : Type 0 where
   pub no-more-words : length (h .net .gates) ≤ length (g .net .gates)
   pub gates-stored : Stored (filled (length (g .net .gates)) (h .net .gates)) (before .result .gates) (after .result .gates)
   pub outputs-stored : Stored (h .outputs) (before .result .outputs) (after .result .outputs)
   pub work-gates-zero : Stored (replicate (length (g .net .gates)) 0) (before .work .gates) (after .work .gates)
   pub work-outputs-zero : Stored (replicate (length (g .outputs)) 0) (before .work .outputs) (after .work .outputs)
+
+-- ---- what an accepted call answers and leaves: e is its effect
+
+-- a text was read as g
+pub record ReadAs (g : Graph) (b : Buffers) (e : Effect ReadText Buffers) : Type 0 where
+  pub counts-told : e .answer ≡ ReadText.Graph (g .net .inputs) (size (g .net)) (length (g .outputs))
+  pub holds : Holds g b (e .lent)
+
+-- g was written
+pub record WrittenAs (g : Graph) (lent : List ℕ) (e : Effect WrittenText (List ℕ)) : Type 0 where
+  pub count-told : e .answer ≡ WrittenText.Bytes (length (textOf g))
+  pub stored : Stored (textOf g) lent (e .lent)
+
+-- g was evaluated under these values, one an input: 1 for true and 0 for false
+pub record EvaluatedAs (g : Graph) (vs lent : List ℕ) (e : Effect Evaluated (List ℕ)) : Type 0 where
+  pub count-told : e .answer ≡ Evaluated.Outputs (length (g .outputs))
+  pub stored : Stored (map (λ b. cond b 1 0) (outputsUnder g (assignmentOf vs))) lent (e .lent)
+
+-- these records were listed; or there was no room for them, and their count was told
+pub record ListedAs (xs lent : List Candidate) (e : Effect Listed (List Candidate)) : Type 0 where
+  pub count-told : e .answer ≡ Listed.Records (length xs)
+  pub stored : Stored xs lent (e .lent)
+
+pub record NoRoomToList (xs lent : List Candidate) (e : Effect Listed (List Candidate)) : Type 0 where
+  pub count-told : e .answer ≡ Listed.NoRoom (length xs)
+  pub unchanged : e .lent ≡ lent
+
+-- a replacement made h of g
+pub record AppliedAs (g h : Graph) (b : Buffers) (e : Effect Applied Buffers) : Type 0 where
+  pub counts-told : e .answer ≡ Applied.Graph (size (h .net)) (length (h .outputs))
+  pub holds : Holds h b (e .lent)
+  pub keeps : Keeps g h
+  -- strictly fewer gates are in use
+  pub fewer : usedGates h < usedGates g
+
+-- a run came from g to h by so many replacements
+pub record RanAs (g h : Graph) (made : ℕ) (b : RunBuffers) (e : Effect Ran RunBuffers) : Type 0 where
+  pub counts-told : e .answer ≡ Ran.Finished (size (h .net)) made
+  pub holds : RunHolds g h b (e .lent)
+  pub keeps : Keeps g h
+  pub none-left : NoneLeft h
 
 -- ---- calls in a row
 
@@ -76,7 +120,7 @@ readBack w b =
 abbrev pub WrittenAgain : Graph → List ℕ → Buffers → ReadText → Buffers → Type 0
 WrittenAgain g bytes before r after =
     WellFormed g → length (textOf g) ≤ length bytes → RoomFor g before
-    → (r ≡ ReadText.Graph (g .net .inputs) (size (g .net)) (length (g .outputs))) × Holds g before after
+    → ReadAs g before (r leaving after)
 
 -- a call was made twice, each time on lent memory of its own: where both held the same before, the answers are the same, and both
 -- hold the same after

@@ -148,9 +148,9 @@ runEdges =
     gives (0 ∷ 1 ∷ 0 ∷ 5 ∷ 3 ∷ 0 ∷ 0 ∷ 6 ∷ replicate 5 0)
     ∷ []
 
-unfoldable pub runSteps : List Example
+unfoldable pub runRestarts : List Example
 unfolding runCall
-runSteps =
+runRestarts =
     -- two replacements: gate 5 has one only once gate 4 had one, so the run starts again at the top
     runCall (graphOf 2 (4 ∷ 2 ∷ 6 ∷ 3 ∷ 7 ∷ 2 ∷ []) (11 ∷ 8 ∷ [])) (buffers 6 2) (buffers 6 2)
     gives (0 ∷ 1 ∷ 2 ∷ 5 ∷ 2 ∷ 0 ∷ 0 ∷ 0 ∷ 0 ∷ 7 ∷ 0 ∷ replicate 8 0)

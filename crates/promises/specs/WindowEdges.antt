@@ -65,7 +65,7 @@ tableEdges =
     -- descending, and repeated at either end
     ∷ tableCall e1 4 (leavesOf (2 ∷ 1 ∷ [])) gives (10 ∷ [])
     ∷ (tableCall e1 4 (leavesOf (1 ∷ 1 ∷ 2 ∷ [])) ++ tableCall e1 4 (leavesOf (1 ∷ 2 ∷ 2 ∷ []))) gives (10 ∷ 10 ∷ [])
-    -- zero leaves cut a gate over the constant, and no other
+    -- zero leaves cut a gate over the constant, and not E1's gate 4
     ∷ tableCall (graphOf 0 (1 ∷ 1 ∷ []) (2 ∷ [])) 1 (leavesOf []) gives (0 ∷ 0xFFFFFFFFFFFFFFFF ∷ [])
     ∷ tableCall e1 4 (leavesOf []) gives (11 ∷ [])
     -- a leaf that is a gate is free, even where its fanins are covered

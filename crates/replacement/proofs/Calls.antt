@@ -26,8 +26,8 @@ use Rattle.graph.proofs.Refuse.{
   none-parts,
   decides-join,
 }
-use Rattle.graph.proofs.Tests.{denial-on, denial-off, test-off, eqb-iff}
-use Rattle.graph.proofs.Lent.{no-room-iff}
+use Rattle.graph.proofs.Tests.{denial-on, denial-off, eqb-iff}
+use Rattle.graph.proofs.Lent.{room-iff, no-room-iff}
 use Rattle.window.specs.declared.leaf_set.Leaves.{Leaves}
 use Rattle.window.specs.Table.{table, sameTable}
 use Rattle.window.specs.Local.{Covered}
@@ -84,7 +84,7 @@ module _ (g : Graph) (root : ℕ) (w : Leaves) (p : Proposal) where
     apply-complete q (order-lost h) =
         inr (λ s. let t = s .1 .1 .1 .1 in h (denial-off _ (well-formed-iff (finished g root p)) (t .1 .1 .1 .0 refl)))
     apply-complete q (no-room h) =
-        inr (λ s. let t = s .1 .1 .1 .1 in test-off _ (no-room-iff (finished g root p) b) (t .1 .1 .1 .1 .0 refl) h)
+        inr (λ s. let t = s .1 .1 .1 .1 in h (room-iff (finished g root p) b .0 (t .1 .1 .1 .1 .0 refl)))
 
     no-fewer : ¬ (usedGates (finished g root p) < usedGates g) → usedGates g ≤ usedGates (finished g root p)
     no-fewer n = omega arith

@@ -17,7 +17,7 @@ use Rattle.window.specs.Leaves.{leafLimit}
 use Rattle.window.specs.Local.{covered}
 use Rattle.window.specs.Table.{table}
 use Rattle.replacement.specs.declared.types.Proposal.{Proposal}
-use Rattle.replacement.specs.Proposal.{Allowed, proposedValue, proposedTable}
+use Rattle.replacement.specs.Proposal.{AllowedByTest, proposedValue, proposedTable}
 use Rattle.replacement.specs.Rewire.{redirected, rewired, finished}
 use Rattle.replacement.proofs.Circuit.{replaced-keeps-outputs}
 use Rattle.replacement.proofs.Proposal.{equal-table-computes}
@@ -34,7 +34,7 @@ module _ (g : Graph) (root : ℕ) (p : Proposal) where
   finished-sinks = length-map (sinks (rewired g root p)) (renumbered (rewired g root p .net) _) ∙ length-map (sinks g) (redirected root p)
 
 module _ (g : Graph) (ok : Lawful g) (root : ℕ) (gate : IsGate (g .net) root) (w : Leaves) (p : Proposal)
-    (rule : Allowed (g .net) root w p) where
+    (rule : AllowedByTest (g .net) root w p) where
   lawful : Lawful (rewired g root p)
   lawful = rewired-lawful g ok root gate p (wires-of (g .net) root w p rule)
 
@@ -53,7 +53,7 @@ module _ (g : Graph) (ok : Lawful g) (root : ℕ) (gate : IsGate (g .net) root) 
 
 -- with a gain the order is never lost: there are no more gates than before
 pub finished-well-formed : (g : Graph) → WellFormed g → (root : ℕ) → IsGate (g .net) root → (w : Leaves) (p : Proposal)
-    → Allowed (g .net) root w p
+    → AllowedByTest (g .net) root w p
     → usedGates (finished g root p) < usedGates g → WellFormed (finished g root p)
 finished-well-formed g ok root gate w p rule fewer = record {
   lawful = finished-lawful g (ok .lawful) root gate w p rule;
@@ -68,7 +68,7 @@ pub record Replaces (g : Graph) (root : ℕ) (w : Leaves) (p : Proposal) : Type 
   pub gate : IsGate (g .net) root
   pub few : w .count ≤ leafLimit
   pub cut : covered (g .net) w root ≡ true
-  pub rule : Allowed (g .net) root w p
+  pub rule : AllowedByTest (g .net) root w p
   pub equal : proposedTable (g .net) root w p ≡ table (g .net) w root
 
 module _ (g : Graph) (root : ℕ) (w : Leaves) (p : Proposal) (same : Replaces g root w p) where

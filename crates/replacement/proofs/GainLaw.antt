@@ -12,14 +12,15 @@ use Rattle.graph.specs.Use.{InUse, usedGates}
 use Rattle.graph.proofs.Drop.{dropped-uses}
 use Rattle.window.specs.declared.leaf_set.Leaves.{Leaves}
 use Rattle.replacement.specs.declared.types.Proposal.{Proposal}
-use Rattle.replacement.specs.Proposal.{Allowed}
+use Rattle.replacement.specs.Proposal.{AllowedByTest}
 use Rattle.replacement.specs.Rewire.{rewired, finished, gain, atLeastOne}
 use Rattle.replacement.specs.Vanish.{newGates, vanishing, heldBack}
 use Rattle.replacement.proofs.Rewire.{wires-of, rewired-lawful}
 use Rattle.replacement.proofs.Gain.{difference, same-difference, gain-iff}
 use Rattle.replacement.proofs.Vanish.{new-and, rewired-balance}
 
-module _ (g : Graph) (ok : Lawful g) (root : ℕ) (used : InUse g root) (w : Leaves) (p : Proposal) (rule : Allowed (g .net) root w p) where
+module _ (g : Graph) (ok : Lawful g) (root : ℕ) (used : InUse g root) (w : Leaves) (p : Proposal)
+    (rule : AllowedByTest (g .net) root w p) where
   -- in natural numbers
   pub gain-balance : usedGates (finished g root p) + vanishing g root ≡ usedGates g + (newGates p + heldBack g root p)
   unfolding finished

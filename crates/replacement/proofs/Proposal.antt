@@ -30,7 +30,7 @@ use Rattle.replacement.specs.Proposal.{
   andRules,
   allowed,
   RuleKept,
-  Allowed,
+  AllowedByTest,
   a-literal,
   an-and,
   proposedValue,
@@ -65,26 +65,26 @@ module _ (net : Net) (root : ℕ) (w : Leaves) where
     unfolding allowed
     by-none n m = rw (ne-eqb (p .kind) 0 n, ne-eqb (p .kind) 1 m)
 
-    literal-facts : p .kind ≡ 0 → every (literalRules net root w p) ≡ true → Allowed net root w p
+    literal-facts : p .kind ≡ 0 → every (literalRules net root w p) ≡ true → AllowedByTest net root w p
     unfolding literalRules
     literal-facts k e =
         let at = every-at (literalRules net root w p) e in
         a-literal k (divides-facts (p .first .0) (at 0)) (eqb-true _ _ (at 1)) (eqb-true _ _ (at 2))
 
-    and-facts : p .kind ≡ 1 → every (andRules net root w p) ≡ true → Allowed net root w p
+    and-facts : p .kind ≡ 1 → every (andRules net root w p) ≡ true → AllowedByTest net root w p
     unfolding andRules
     and-facts k e =
         let at = every-at (andRules net root w p) e in
         an-and k (divides-facts (p .first .0) (at 0)) (divides-facts (p .second .0) (at 1)) (ltb-true _ _ (at 2)) (ltb-true _ _ (at 3))
         (leb-true _ _ (at 4))
 
-    allowed-facts : allowed net root w p ≡ true → Allowed net root w p
+    allowed-facts : allowed net root w p ≡ true → AllowedByTest net root w p
     allowed-facts e = ⊎-elim
         (λ k. literal-facts k (sym (by-literal k) ∙ e))
         (λ n. ⊎-elim (λ k. and-facts k (sym (by-and k) ∙ e)) (λ m. absurd (false≢true (sym (by-none n m) ∙ e))) (equal-or-not (p .kind) 1))
         (equal-or-not (p .kind) 0)
 
-    allowed-test : Allowed net root w p → allowed net root w p ≡ true
+    allowed-test : AllowedByTest net root w p → allowed net root w p ≡ true
     unfolding literalRules andRules
     allowed-test (a-literal k d s t) = by-literal k ∙ every-of (divides-test (p .first .0) d then eq-eqb _ _ s then eq-eqb _ _ t then done)
     allowed-test (an-and k d d′ z l t) =
@@ -92,7 +92,7 @@ module _ (net : Net) (root : ℕ) (w : Leaves) where
         ∙ every-of (divides-test (p .first .0) d then divides-test
         (p .second .0) d′ then lt-ltb _ _ z then lt-ltb _ _ l then le-leb _ _ t then done)
 
-    pub allowed-iff : (allowed net root w p ≡ true) ↔ Allowed net root w p
+    pub allowed-iff : (allowed net root w p ≡ true) ↔ AllowedByTest net root w p
     allowed-iff = (allowed-facts, allowed-test)
 
 -- a rule that is kept by one notion of coverage is kept by another that goes as far below the root
@@ -106,7 +106,7 @@ module _ {C D : ℕ → Type 0} (root : ℕ) (as-far : (v : ℕ) → v < root �
 
 -- at a gate the test of coverage and coverage itself come to the same
 pub rule-iff : (g : Graph) → Lawful g → (root : ℕ) → IsGate (g .net) root → (w : Leaves) (p : Proposal)
-    → Allowed (g .net) root w p ↔ RuleKept (Covered (g .net) w) root p
+    → AllowedByTest (g .net) root w p ↔ RuleKept (Covered (g .net) w) root p
 rule-iff g ok root gate w p =
     let below : (v : ℕ) → v < root → v ≤ last (g .net) = λ v l. let h = gate .within in omega arith in (
       rule-too root (λ v l. covered-iff g ok w v (below v l) .0),
@@ -140,7 +140,7 @@ module _ (net : Net) (root : ℕ) (w : Leaves) (p : Proposal) where
   unfolding litValue bools
   literal-relies vs vs′ h l d = ap (turned bools (isOdd l)) (h (varOf l) (d .below-root) (d .is-covered))
 
-  value-relies : Allowed net root w p → (vs vs′ : List Bool) → Agree vs vs′ → proposedValue bools vs p ≡ proposedValue bools vs′ p
+  value-relies : AllowedByTest net root w p → (vs vs′ : List Bool) → Agree vs vs′ → proposedValue bools vs p ≡ proposedValue bools vs′ p
   value-relies (a-literal k d s t) vs vs′ h =
       value-of-literal p k vs ∙ literal-relies vs vs′ h (p .first .0) d ∙ sym (value-of-literal p k vs′)
   value-relies (an-and k d d′ z l t) vs vs′ h =
@@ -150,7 +150,7 @@ module _ (net : Net) (root : ℕ) (w : Leaves) (p : Proposal) where
       ∙ sym (value-of-and p k vs′)
 
   -- equal tables are equal functions, under every assignment of the leaves
-  pub equal-table-computes : w .count ≤ leafLimit → Allowed net root w p → proposedTable net root w p ≡ table net w root
+  pub equal-table-computes : w .count ≤ leafLimit → AllowedByTest net root w p → proposedTable net root w p ≡ table net w root
       → Computes net w root (λ vs. proposedValue bools vs p)
   equal-table-computes c ok e = record {
     relies = value-relies ok;

@@ -15,7 +15,7 @@ use Rattle.graph.proofs.Lists.{equal-or-not}
 use Rattle.graph.proofs.Members.{map-at}
 use Rattle.window.specs.declared.leaf_set.Leaves.{Leaves}
 use Rattle.replacement.specs.declared.types.Proposal.{Proposal}
-use Rattle.replacement.specs.Proposal.{Allowed, a-literal, an-and}
+use Rattle.replacement.specs.Proposal.{AllowedByTest, a-literal, an-and}
 use Rattle.replacement.specs.Rewire.{standIn, redirected, rootGates, rewiredGate, rewiredNet, rewired}
 use Rattle.replacement.proofs.NetPieces.{GateOver, pieces-length, pieces-hold}
 
@@ -83,7 +83,7 @@ pub data Wires (root : ℕ) (p : Proposal) : Type 0 where
   to-literal : p .kind ≡ 0 → varOf (p .first .0) < root → p .second .0 ≡ 0 → Wires root p
   to-and : p .kind ≡ 1 → varOf (p .first .0) < root → varOf (p .second .0) < root → p .turned ≤ 1 → Wires root p
 
-pub wires-of : (net : Net) (root : ℕ) (w : Leaves) (p : Proposal) → Allowed net root w p → Wires root p
+pub wires-of : (net : Net) (root : ℕ) (w : Leaves) (p : Proposal) → AllowedByTest net root w p → Wires root p
 wires-of net root w p (a-literal k d s t) = to-literal k (d .below-root) s
 wires-of net root w p (an-and k d d′ z l t) = to-and k (d .below-root) (d′ .below-root) t
 

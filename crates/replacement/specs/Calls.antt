@@ -8,7 +8,7 @@ use mathlib.Core.Option.{none, some}
 use lib.ListN.{length}
 use Rattle.graph.specs.declared.refusal.Refusal.{Refusal}
 use Rattle.graph.specs.declared.refusal.Refusal.the-variants.{BadCandidate, NotEqual, NoGain, OrderLost, NoRoom}
-use Rattle.graph.specs.Lent.{Buffers, noRoomFor, NoRoomFor, storedIn, Effect, _leaving_}
+use Rattle.graph.specs.Lent.{Buffers, noRoomFor, RoomFor, storedIn, Effect, _leaving_}
 use Rattle.graph.specs.Refuse.{Row, _⇒_, firstRefusal, Outcome, accepted, refused}
 use Rattle.graph.specs.Use.{usedGates}
 use Rattle.graph.specs.Graph.{Graph, size, wellFormed, WellFormed}
@@ -44,7 +44,7 @@ pub data ApplyGiven (g : Graph) (root : ℕ) (w : Leaves) (p : Proposal) (b : Bu
   not-equal : ¬ (proposedTable (g .net) root w p ≡ table (g .net) w root) → ApplyGiven g root w p b NotEqual
   no-gain : usedGates g ≤ usedGates (finished g root p) → ApplyGiven g root w p b NoGain
   order-lost : ¬ WellFormed (finished g root p) → ApplyGiven g root w p b OrderLost
-  no-room : NoRoomFor (finished g root p) b → ApplyGiven g root w p b NoRoom
+  no-room : ¬ RoomFor (finished g root p) b → ApplyGiven g root w p b NoRoom
 
 -- the room is that of the finished graph
 unfoldable pub applyRefusals : Graph → ℕ → Leaves → Proposal → Buffers → List Row

@@ -63,8 +63,8 @@ pub data RuleKept (Cov : ℕ → Type 0) (root : ℕ) (p : Proposal) : Type 0 wh
       → RuleKept Cov root p
 
 -- by the test, which answers whatever the net, the root and the leaves are
-abbrev pub Allowed : Net → ℕ → Leaves → Proposal → Type 0
-Allowed net root w p = RuleKept (Tested net w) root p
+abbrev pub AllowedByTest : Net → ℕ → Leaves → Proposal → Type 0
+AllowedByTest net root w p = RuleKept (Tested net w) root p
 
 -- the proposal's value over any algebra, where vs has the values of the variables below the root
 unfoldable pub proposedValue : {A : Type 0} → Algebra A → List A → Proposal → A

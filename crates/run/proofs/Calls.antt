@@ -8,7 +8,7 @@ use Prim.Native.Nat.{ℕ}
 use mathlib.Core.Logic.{_↔_, _⊎_, inl, inr, ⊎-elim}
 use Rattle.graph.specs.declared.refusal.Refusal.{Refusal}
 use lib.ListN.{length, replicate}
-use Rattle.graph.specs.Lent.{written, buffersOf, noRoomFor, NoRoomFor, storedIn}
+use Rattle.graph.specs.Lent.{written, buffersOf, noRoomFor, RoomFor, storedIn}
 use Rattle.graph.specs.Refuse.{firstRefusal, numberOf, Answers}
 use Rattle.graph.specs.Graph.{Graph}
 use Rattle.graph.proofs.Graph.{well-formed-iff}
@@ -31,7 +31,7 @@ use Rattle.run.specs.Calls.{
 
 module _ (g : Graph) (b : RunBuffers) where
   -- the result's room or the work area's is too little
-  room-iff : (noRoomFor g (b .result) || noRoomFor g (b .work) ≡ true) ↔ (NoRoomFor g (b .result) ⊎ NoRoomFor g (b .work))
+  room-iff : (noRoomFor g (b .result) || noRoomFor g (b .work) ≡ true) ↔ ((¬ RoomFor g (b .result)) ⊎ (¬ RoomFor g (b .work)))
   room-iff = or-iff _ _ (no-room-iff g (b .result)) (no-room-iff g (b .work))
 
   run-complete : (q : Refusal) → RunGiven g b q → ¬ Silent runRank q (runRefusals g b)

@@ -5,7 +5,7 @@ use mathlib.Core.List.{List, [], _∷_, _++_, head-eq-of-cons-eq, tail-eq-of-con
 use Prim.Native.Nat.{ℕ, suc, _<_, _≤_}
 use native.Mathlib.Omega.{arith}
 use Rattle.graph.specs.Lists.{_∈_, here, later}
-use Rattle.graph.specs.Graph.{Graph, WellFormed}
+use Rattle.graph.specs.Graph.{Graph, Lawful, WellFormed}
 use Rattle.graph.specs.Drop.{dropped}
 use Rattle.graph.proofs.Members.{in-right}
 use Rattle.window.specs.LeafRule.{picked}
@@ -13,8 +13,8 @@ use Rattle.replacement.specs.Rewire.{finished}
 use Rattle.listing.specs.declared.Candidate.{Candidate}
 use Rattle.listing.specs.Listing.{listed, proposalOf}
 use Rattle.run.specs.Run.{run, Greatest, Step, Steps, ends, goes-on}
-use Rattle.run.proofs.Step.{best-good}
-use Rattle.run.proofs.Run.{run-steps}
+use Rattle.run.proofs.Step.{best-is-good}
+use Rattle.run.proofs.Run.{Ready, step-ready, dropped-ready, run-steps}
 
 -- ---- the record
 
@@ -44,13 +44,13 @@ greatest-one xs x y g h =
 -- ---- the step
 
 -- neither gate is higher than the other
-not-higher : {g h h′ : Graph} (s : Step g h) (t : Step g h′) → ¬ (s .root < t .root)
-not-higher s t l = s .none-higher (t .root) (t .is-gate) l (t .best) (best-good t)
+not-higher : {g h h′ : Graph} → Lawful g → (s : Step g h) (t : Step g h′) → ¬ (s .root < t .root)
+not-higher ok s t l = s .none-higher (t .root) (t .is-gate) l (t .best) (best-is-good ok t)
 
-step-one : {g h h′ : Graph} → Step g h → Step g h′ → h ≡ h′
-step-one {g} s t =
-    let not-lower = not-higher s t in
-    let not-above = not-higher t s in
+step-one : {g h h′ : Graph} → Lawful g → Step g h → Step g h′ → h ≡ h′
+step-one {g} ok s t =
+    let not-lower = not-higher ok s t in
+    let not-above = not-higher ok t s in
     let e : s .root ≡ t .root = omega arith in
     let b = greatest-one (listed g (t .root) (picked (g .net) (t .root))) (s .best) (t .best)
     (subst (λ (v : ℕ). Greatest (listed g v (picked (g .net) v)) (s .best)) e (s .is-best)) (t .is-best) in
@@ -59,12 +59,13 @@ step-one {g} s t =
 -- ---- the run
 
 -- two ends that steps lead to are one, after the same number of steps
-steps-one : {g e e′ : Graph} {n n′ : ℕ} → Steps g n e → Steps g n′ e′ → (n ≡ n′) × (e ≡ e′)
-steps-one (ends h) (ends h′) = (refl, refl)
-steps-one (ends h) (goes-on s t) = absurd (h (s .root) (s .is-gate) (s .best) (best-good s))
-steps-one (goes-on s t) (ends h) = absurd (h (s .root) (s .is-gate) (s .best) (best-good s))
-steps-one (goes-on {e} {n} s t) (goes-on s′ t′) =
-    let r = steps-one (subst (λ (h : Graph). Steps h n e) (step-one s s′) t) t′ in (ap suc (r .0), r .1)
+steps-one : {g e e′ : Graph} {n n′ : ℕ} → Ready g → Steps g n e → Steps g n′ e′ → (n ≡ n′) × (e ≡ e′)
+steps-one r (ends h) (ends h′) = (refl, refl)
+steps-one r (ends h) (goes-on s t) = absurd (h (s .root) (s .is-gate) (s .best) (best-is-good (r .well-formed .lawful) s))
+steps-one r (goes-on s t) (ends h) = absurd (h (s .root) (s .is-gate) (s .best) (best-is-good (r .well-formed .lawful) s))
+steps-one r (goes-on {e} {n} s t) (goes-on {g} {h} s′ t′) =
+    let same = step-one (r .well-formed .lawful) s s′ in
+    let rest = steps-one (step-ready g h r s′) (subst (λ (k : Graph). Steps k n e) same t) t′ in (ap suc (rest .0), rest .1)
 
 pub run-only : (g : Graph) → WellFormed g → (n : ℕ) (e : Graph) → Steps (dropped g) n e → (n ≡ run g .made) × (e ≡ run g .graph)
-run-only g w n e s = steps-one s (run-steps g w)
+run-only g w n e s = steps-one (dropped-ready g w) s (run-steps g w)

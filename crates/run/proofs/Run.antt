@@ -108,13 +108,13 @@ steps-from (suc n) g made r b = go (step g) refl (λ h. steps-from n h (suc made
   where
     go : (o : Option Graph) → step g ≡ o → ((h : Graph) → Ready h → size (h .net) ≤ n → Counted h (suc made) (stepsFrom n h (suc made)))
         → Counted g made (elim o [ some h ↦ stepsFrom n h (suc made) | none ↦ record { graph = g; made = made } ])
-    go none e rest = (0, ends (no-step g e), omega arith)
+    go none e rest = (0, ends (no-step g (r .well-formed .lawful) e), omega arith)
     go (some h) e rest =
-        let s = step-is g h e in
+        let s = step-is g (r .well-formed .lawful) h e in
         let t = rest h (step-ready g h r s) (let l = step-shrinks g h r s in omega arith) in
         (suc (t .0), goes-on s (t .1), omega (arith, t .2))
 
-dropped-ready : (g : Graph) → WellFormed g → Ready (dropped g)
+pub dropped-ready : (g : Graph) → WellFormed g → Ready (dropped g)
 dropped-ready g w = record { well-formed = dropped-well-formed g w; all-reached = dropped-all-reached g (w .lawful) }
 
 counted-all : (g : Graph) (e : End) → Counted g 0 e → Steps g (e .made) (e .graph)

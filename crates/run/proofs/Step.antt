@@ -6,20 +6,21 @@ use mathlib.Core.Option.{Option, none, some}
 use Prim.Native.Nat.{ℕ, zero, suc, _+_, _≤_, _<_}
 use native.Mathlib.Nat.{le-refl}
 use native.Mathlib.Omega.{arith}
-use Rattle.graph.specs.Graph.{Graph, free, size, IsGate}
+use Rattle.graph.specs.Graph.{Graph, free, size, IsGate, Lawful}
 use Rattle.graph.proofs.Lists.{at-most-or-above}
 use Rattle.window.specs.LeafRule.{picked}
 use Rattle.replacement.specs.Rewire.{finished}
 use Rattle.listing.specs.declared.Candidate.{Candidate}
-use Rattle.listing.specs.Listing.{listed, proposalOf, GoodRecord}
-use Rattle.listing.proofs.Listing.{listed-is, list-empty-iff}
+use Rattle.listing.specs.Listing.{listed, proposalOf, GoodReplacement, GoodByTest}
+use Rattle.listing.proofs.Listing.{listed-is, good-iff, list-empty-iff}
 use Rattle.run.specs.Run.{bestAt, stepFrom, step, NoneAt, Step}
 use Rattle.run.proofs.Greatest.{greatest-is, greatest-none, greatest-in}
 
-module _ (g : Graph) where
-  none-best : (v : ℕ) → bestAt g v ≡ none → NoneAt g v
+module _ (g : Graph) (ok : Lawful g) where
+  none-best : (v : ℕ) → IsGate (g .net) v → bestAt g v ≡ none → NoneAt g v
   unfolding bestAt
-  none-best v e = list-empty-iff g v (picked (g .net) v) .0 (greatest-none (listed g v (picked (g .net) v)) e)
+  none-best v i e x good =
+      let w = picked (g .net) v in list-empty-iff g v w .0 (greatest-none (listed g v w) e) x (good-iff g ok v i w x .1 good)
 
   -- all gates from the k-th on, counted from 0, have none
   abbrev NoneFrom : ℕ → Type 0
@@ -27,7 +28,7 @@ module _ (g : Graph) where
 
   none-from : (k : ℕ) → bestAt g (suc (free (g .net) + k)) ≡ none → NoneFrom (suc k) → NoneFrom k
   none-from k e above v i h = ⊎-elim
-      (λ l. let q : suc (free (g .net) + k) ≡ v = omega arith in subst (NoneAt g) q (none-best (suc (free (g .net) + k)) e))
+      (λ l. let q : suc (free (g .net) + k) ≡ v = omega arith in none-best v i (subst (λ (u : ℕ). bestAt g u ≡ none) q e))
       (λ l. above v i (omega arith)) (at-most-or-above v (suc (free (g .net) + k)))
 
   -- what a pass comes to
@@ -62,6 +63,9 @@ module _ (g : Graph) where
   pub no-step : step g ≡ none → (v : ℕ) → IsGate (g .net) v → NoneAt g v
   no-step e v i = subst PassTo e passed v i (let a = i .above in omega arith)
 
--- the record taken is a good one
-pub best-good : {g h : Graph} (s : Step g h) → GoodRecord g (s .root) (picked (g .net) (s .root)) (s .best)
+-- the record taken is a good one, by the test of coverage and by coverage itself
+pub best-good : {g h : Graph} (s : Step g h) → GoodByTest g (s .root) (picked (g .net) (s .root)) (s .best)
 best-good {g} s = listed-is g (s .root) (picked (g .net) (s .root)) .holds (s .best) .0 (greatest-in (s .is-best))
+
+pub best-is-good : {g h : Graph} → Lawful g → (s : Step g h) → GoodReplacement g (s .root) (picked (g .net) (s .root)) (s .best)
+best-is-good {g} ok s = good-iff g ok (s .root) (s .is-gate) (picked (g .net) (s .root)) (s .best) .0 (best-good s)

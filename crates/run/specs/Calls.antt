@@ -8,7 +8,7 @@ use lib.ListN.{length}
 use Rattle.graph.specs.declared.refusal.Refusal.{Refusal}
 use Rattle.graph.specs.declared.refusal.Refusal.the-variants.{BadGraph, NoRoom}
 use Rattle.graph.specs.Lists.{filled}
-use Rattle.graph.specs.Lent.{Buffers, noRoomFor, NoRoomFor, storedIn, Effect, _leaving_}
+use Rattle.graph.specs.Lent.{Buffers, noRoomFor, RoomFor, storedIn, Effect, _leaving_}
 use Rattle.graph.specs.Refuse.{numberOf, Row, _⇒_, firstRefusal, Outcome, accepted, refused}
 use Rattle.graph.specs.Graph.{Graph, graphOf, size, wellFormed, WellFormed}
 use Rattle.run.specs.declared.Ran.{Ran}
@@ -26,8 +26,8 @@ runRank = numberOf
 -- when a run is refused
 pub data RunGiven (g : Graph) (b : RunBuffers) : Refusal → Type 0 where
   bad-graph : ¬ WellFormed g → RunGiven g b BadGraph
-  no-room-for-result : NoRoomFor g (b .result) → RunGiven g b NoRoom
-  no-room-for-work : NoRoomFor g (b .work) → RunGiven g b NoRoom
+  no-room-for-result : ¬ RoomFor g (b .result) → RunGiven g b NoRoom
+  no-room-for-work : ¬ RoomFor g (b .work) → RunGiven g b NoRoom
 
 -- the room is that of the source graph, in the result and in the work area alike
 unfoldable pub runRefusals : Graph → RunBuffers → List Row

@@ -12,7 +12,7 @@ use Rattle.graph.specs.Drop.{dropped}
 use Rattle.window.specs.LeafRule.{picked}
 use Rattle.replacement.specs.Rewire.{finished}
 use Rattle.listing.specs.declared.Candidate.{Candidate}
-use Rattle.listing.specs.Listing.{listed, proposalOf, GoodRecord}
+use Rattle.listing.specs.Listing.{listed, proposalOf, GoodReplacement}
 
 -- the record of greatest gain, the earliest on ties
 unfoldable pub greatestFrom : Candidate → List Candidate → Candidate
@@ -68,7 +68,7 @@ pub record Greatest (xs : List Candidate) (x : Candidate) : Type 0 where
 
 -- gate v has no good replacement over the leaves that the rule picks
 abbrev pub NoneAt : Graph → ℕ → Type 0
-NoneAt g v = (x : Candidate) → ¬ GoodRecord g v (picked (g .net) v) x
+NoneAt g v = (x : Candidate) → ¬ GoodReplacement g v (picked (g .net) v) x
 
 -- the highest gate that has a good replacement has its best one applied
 pub record Step (g h : Graph) : Type 0 where

@@ -13,7 +13,7 @@ use lib.ListN.{length}
 use Rattle.graph.specs.declared.refusal.Refusal.{Refusal}
 use Rattle.graph.specs.declared.refusal.Refusal.the-variants.{BadCount, NoRoom}
 use Rattle.graph.specs.Refuse.{Row, firstRefusal, numberOf, Lowest, Answers}
-use Rattle.graph.specs.Lent.{Buffers, noRoomFor, NoRoomFor}
+use Rattle.graph.specs.Lent.{Buffers, noRoomFor, RoomFor}
 use Rattle.graph.specs.Graph.{Graph, mostInputs, mostOutputs, mostGates}
 use Rattle.graph.proofs.Graph.{well-formed-iff}
 use Rattle.graph.proofs.Refuse.{
@@ -97,7 +97,7 @@ module _ (t : List ℕ) (b : Buffers) (ns rest : List ℕ) (e : headerLine t ≡
   data Case : Refusal → Type 0 where
     early : {r : Refusal} → leb (readRank r) (readRank BadCount) ≡ true → ¬ Silent readRank r rows → Case r
     by-line : {r : Refusal} → FirstWrong needs rest r → Case r
-    by-room : {g : Graph} → States t g → NoRoomFor g b → Case NoRoom
+    by-room : {g : Graph} → States t g → ¬ RoomFor g b → Case NoRoom
 
   case : {q : Refusal} → ReadGiven t b q → Case q
   unfolding headerRefusals
@@ -168,11 +168,11 @@ module _ (t : List ℕ) (b : Buffers) (ns rest : List ℕ) (e : headerLine t ≡
       graph-stated : States t graph
       graph-stated = (reading-iff t graph .0 (first-line-passes t e (first-none header-decides .1 c) ∙ body-right counts rest f)) .states
 
-      only-room : {q : Refusal} → ReadGiven t b q → Case q → (q ≡ NoRoom) × NoRoomFor graph b
+      only-room : {q : Refusal} → ReadGiven t b q → Case q → (q ≡ NoRoom) × (¬ RoomFor graph b)
       unfolding Early
       only-room {q} d (early k n) = absurd (c q (d, leb-true (readRank q) (readRank BadCount) k))
       only-room d (by-line w) = absurd (wrong-not-right (sym (first-wrong-iff needs rest _ .1 w) ∙ f))
-      only-room d (by-room {g} h k) = (refl, subst (λ (g : Graph). NoRoomFor g b) (states-one t g graph h graph-stated) k)
+      only-room d (by-room {g} h k) = (refl, subst (λ (g : Graph). ¬ RoomFor g b) (states-one t g graph h graph-stated) k)
 
       room-settles : Settles readRank (ReadGiven t b) (refusalOf (withRoom (yields graph) b))
       unfolding withRoom refusalOf

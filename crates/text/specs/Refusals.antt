@@ -18,7 +18,7 @@ use Rattle.graph.specs.declared.refusal.Refusal.the-variants.{
 }
 use Rattle.graph.specs.Refuse.{numberOf}
 use Rattle.graph.specs.Graph.{Graph, WellFormed, mostInputs, mostOutputs, mostGates}
-use Rattle.graph.specs.Lent.{Buffers, NoRoomFor}
+use Rattle.graph.specs.Lent.{Buffers, RoomFor}
 use Rattle.text.specs.Number.{mostNumber}
 use Rattle.text.specs.Line.{line}
 use Rattle.text.specs.States.{aag, skipped, States, textOf}
@@ -62,7 +62,7 @@ pub data ReadGiven (t : List ℕ) (b : Buffers) : Refusal → Type 0 where
   bad-count : {ns rest : List ℕ} → Headed t ns rest → ¬ ((headerOf ns) .highest ≡ freeOf (headerOf ns) + (headerOf ns) .gates)
       → ReadGiven t b BadCount
   wrong-line : {ns rest : List ℕ} {r : Refusal} → Headed t ns rest → FirstWrong (linesNeeded (headerOf ns)) rest r → ReadGiven t b r
-  no-room : {g : Graph} → States t g → NoRoomFor g b → ReadGiven t b NoRoom
+  no-room : {g : Graph} → States t g → ¬ RoomFor g b → ReadGiven t b NoRoom
 
 -- its refusals rank by their numbers
 abbrev pub writeRank : Refusal → ℕ
