@@ -62,7 +62,7 @@ fn record(words: &[u64]) -> Record {
     }
 }
 
-pub const APPLY: [Sort<Apply>; 22] = [
+pub const APPLY: [Sort<Apply>; 23] = [
     (8, "kind 0 on a variable, gates left", |call, told| {
         leaves_gates(told) && call.proposal.kind == 0 && call.proposal.first > 1
     }),
@@ -114,11 +114,27 @@ pub const APPLY: [Sort<Apply>; 22] = [
     (2, "a gain below 0", |call, told| {
         told.is(NoGain) && replace::gain(&call.site.graph, call.site.root, &call.proposal) < 0
     }),
-    (8, "too few words", |_, told| told.is(NoRoom)),
+    (4, "too few words for gates", |call, told| {
+        lacks(call, told) == [true, false]
+    }),
+    (4, "too few words for outputs", |call, told| {
+        lacks(call, told) == [false, true]
+    }),
 ];
 
 fn leaves_gates(told: &Told) -> bool {
     told.is_accepted() && told.answer[1] > 0
+}
+
+/// Whether gates and outputs find too few words, where that is said: only then
+/// is there a finished graph.
+fn lacks(call: &Apply, told: &Told) -> [bool; 2] {
+    let Apply { site, proposal, .. } = call;
+    let finished = || replace::finished(&site.graph, site.root, proposal);
+    match told.is(NoRoom) {
+        true => call.room.lacks(&finished()),
+        false => [false, false],
+    }
 }
 
 /// The fanins of each gate in use that names the root.
