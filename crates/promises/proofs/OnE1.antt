@@ -3,16 +3,19 @@
 use mathlib.Core.Path.{_≡_, refl, ap, _∙_}
 use mathlib.Core.List.{List, [], _∷_}
 use native.Mathlib.Omega.{arith}
+use borrow.Author.Tests.{leb-true}
 use lib.ListN.{length}
 use Rattle.graph.specs.Lists.{here}
 use Rattle.graph.specs.Lent.{noRoomFor}
-use Rattle.graph.specs.Graph.{wellFormed, WellFormed}
+use Rattle.graph.specs.Graph.{first, second, wellFormed, WellFormed}
 use Rattle.graph.specs.Use.{inUse, InUse}
 use Rattle.graph.specs.Evaluate.{isAssignment, evaluateEffect}
 use Rattle.graph.proofs.Graph.{well-formed-iff}
 use Rattle.graph.proofs.Lent.{room-iff}
 use Rattle.graph.proofs.Use.{in-use-iff}
 use Rattle.graph.proofs.Evaluate.{assignment-iff}
+use Rattle.text.specs.States.{textOf}
+use Rattle.text.specs.Calls.{writeEffect}
 use Rattle.window.specs.LeafRule.{picked}
 use Rattle.window.specs.Calls.{Window}
 use Rattle.replacement.specs.Proposal.{literal}
@@ -26,10 +29,11 @@ use Rattle.listing.proofs.Listing.{listed-is-every-good, the-list}
 use Rattle.run.specs.Run.{run}
 use Rattle.run.specs.Calls.{RunBuffers, runEffect}
 use Rattle.promises.specs.Calls.{buffers, lent}
-use Rattle.promises.specs.Promises.{EvaluatedAs, AppliedAs, RanAs}
+use Rattle.promises.specs.Promises.{WrittenAs, EvaluatedAs, AppliedAs, RanAs}
 use Rattle.promises.specs.Bench.{e1}
 use Rattle.promises.proofs.Search.{good-record-is-a-good-proposal}
 use Rattle.promises.proofs.Granted.{
+  graph-is-written,
   assignment-is-evaluated,
   gate-in-use-has-leaves,
   window-has-the-list,
@@ -50,7 +54,11 @@ root-used = in-use-iff e1 (e1-well-formed .lawful) 4 .0 refl
 root-window : Window e1 4 (picked (e1 .net) 4)
 root-window = gate-in-use-has-leaves e1 4 e1-well-formed root-used .1
 
--- ---- evaluating
+-- ---- writing and evaluating
+
+pub e1-is-written : WrittenAs e1 (lent 32) (writeEffect e1 (lent 32))
+unfolding e1 textOf first second
+e1-is-written = graph-is-written e1 (lent 32) e1-well-formed (leb-true (length (textOf e1)) 32 refl)
 
 pub e1-is-evaluated : EvaluatedAs e1 (1 ∷ 1 ∷ []) (lent 1) (evaluateEffect e1 (1 ∷ 1 ∷ []) (lent 1))
 unfolding e1 isAssignment
@@ -70,13 +78,22 @@ pub one-list-of-e1 : (xs : List Candidate) → IsTheList IsGood xs → fields xs
 unfolding e1 picked listed fields
 one-list-of-e1 xs all = ap fields (the-list xs (listed e1 4 (picked (e1 .net) 4)) all e1-listed)
 
+two-records : (xs : List Candidate) → IsTheList IsGood xs → length xs ≡ 2
+unfolding e1 picked listed
+two-records xs all = ap length (the-list xs (listed e1 4 (picked (e1 .net) 4)) all e1-listed)
+
+-- two places are enough, and one is too few
 pub e1-is-listed : (records : List Candidate) → length records ≡ 2
     → (listEffect e1 4 (picked (e1 .net) 4) records) .answer ≡ Listed.Records 2
-unfolding e1 picked listed
 e1-is-listed records room =
     let (xs, all, left, told) = window-has-the-list e1 4 (picked (e1 .net) 4) records root-window in
-    let two : length xs ≡ 2 = ap length (the-list xs (listed e1 4 (picked (e1 .net) 4)) all e1-listed) in
-    left (omega arith) .count-told ∙ ap (λ n. Listed.Records n) two
+    let two = two-records xs all in left (omega arith) .count-told ∙ ap (λ n. Listed.Records n) two
+
+pub e1-is-not-listed : (records : List Candidate) → length records ≡ 1
+    → (listEffect e1 4 (picked (e1 .net) 4) records) .answer ≡ Listed.NoRoom 2
+e1-is-not-listed records room =
+    let (xs, all, left, told) = window-has-the-list e1 4 (picked (e1 .net) 4) records root-window in
+    let two = two-records xs all in told (omega arith) .count-told ∙ ap (λ n. Listed.NoRoom n) two
 
 -- ---- applying
 
