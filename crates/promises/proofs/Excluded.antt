@@ -13,13 +13,20 @@ use Rattle.graph.specs.Evaluate.{outputsUnder}
 use Rattle.graph.specs.Use.{inUse}
 use Rattle.graph.proofs.Use.{in-use-iff}
 use Rattle.run.specs.Calls.{RunBuffers}
-use Rattle.promises.specs.Calls.{buffers}
+use Rattle.promises.specs.Calls.{_gives_, Agrees, buffers}
 use Rattle.promises.specs.Promises.{Settled, Keeps, NoneLeft, Stored, RunHolds}
 use Rattle.promises.specs.Bench.{e1, e9, e10}
 use Rattle.promises.proofs.OnE1.{root-used, by-variable-3}
 
 at : ℕ → List ℕ → ℕ
 at j xs = getD xs j 0
+
+-- ---- examples
+
+-- a row that gives another number than it says
+pub wrong-row : ¬ Agrees ((0 ∷ []) gives (1 ∷ []) ∷ [])
+unfolding at
+wrong-row a = let e = ap (λ (rows : List (List ℕ)). at 0 (getD rows 0 [])) a in omega arith
 
 -- ---- demand 1
 
