@@ -1,6 +1,6 @@
 -- The promises at work on E1, with just the room that each call needs: no premise of theirs is out of reach.
 -- Assumes nothing.
-use mathlib.Core.Path.{_≡_, refl, ap, _∙_}
+use mathlib.Core.Path.{_≡_, refl, ap, subst, _∙_}
 use mathlib.Core.List.{List, [], _∷_}
 use native.Mathlib.Omega.{arith}
 use borrow.Author.Tests.{leb-true}
@@ -23,7 +23,7 @@ use Rattle.replacement.specs.Rewire.{finished}
 use Rattle.replacement.specs.Calls.{GoodProposal, applyEffect}
 use Rattle.listing.specs.declared.Candidate.{Candidate}
 use Rattle.listing.specs.declared.Listed.{Listed}
-use Rattle.listing.specs.Listing.{listed, fields, GoodReplacement, IsTheList}
+use Rattle.listing.specs.Listing.{listed, GoodReplacement, IsTheList}
 use Rattle.listing.specs.Calls.{listEffect}
 use Rattle.listing.proofs.Listing.{listed-is-every-good, the-list}
 use Rattle.run.specs.Run.{run}
@@ -67,40 +67,46 @@ e1-is-evaluated =
 
 -- ---- listing
 
-abbrev pub IsGood : Candidate → Type 0
+abbrev IsGood : Candidate → Type 0
 IsGood x = GoodReplacement e1 4 (picked (e1 .net) 4) x
 
-pub e1-listed : IsTheList IsGood (listed e1 4 (picked (e1 .net) 4))
-e1-listed = listed-is-every-good e1 (e1-well-formed .lawful) 4 (root-used .is-gate) (picked (e1 .net) 4)
+-- P3's two records
+abbrev byVariable3 : Candidate
+byVariable3 = record { kind = 0; first = 6; second = 0; turned = 0; gain = 1 }
 
--- P3's two records, and no other list
-pub one-list-of-e1 : (xs : List Candidate) → IsTheList IsGood xs → fields xs ≡ 0 ∷ 6 ∷ 0 ∷ 0 ∷ 1 ∷ 1 ∷ 4 ∷ 2 ∷ 0 ∷ 1 ∷ []
-unfolding e1 picked listed fields
-one-list-of-e1 xs all = ap fields (the-list xs (listed e1 4 (picked (e1 .net) 4)) all e1-listed)
+abbrev byBothInputs : Candidate
+byBothInputs = record { kind = 1; first = 4; second = 2; turned = 0; gain = 1 }
 
-two-records : (xs : List Candidate) → IsTheList IsGood xs → length xs ≡ 2
+e1-list : listed e1 4 (picked (e1 .net) 4) ≡ byVariable3 ∷ byBothInputs ∷ []
 unfolding e1 picked listed
-two-records xs all = ap length (the-list xs (listed e1 4 (picked (e1 .net) 4)) all e1-listed)
+e1-list = refl
+
+e1-listed : IsTheList IsGood (byVariable3 ∷ byBothInputs ∷ [])
+e1-listed =
+    subst (IsTheList IsGood) e1-list (listed-is-every-good e1 (e1-well-formed .lawful) 4 (root-used .is-gate) (picked (e1 .net) 4))
+
+-- and no other list
+pub one-list-of-e1 : (xs : List Candidate) → IsTheList IsGood xs → xs ≡ byVariable3 ∷ byBothInputs ∷ []
+one-list-of-e1 xs all = the-list xs (byVariable3 ∷ byBothInputs ∷ []) all e1-listed
 
 -- two places are enough, and one is too few
 pub e1-is-listed : (records : List Candidate) → length records ≡ 2
     → (listEffect e1 4 (picked (e1 .net) 4) records) .answer ≡ Listed.Records 2
 e1-is-listed records room =
     let (xs, all, left, told) = window-has-the-list e1 4 (picked (e1 .net) 4) records root-window in
-    let two = two-records xs all in left (omega arith) .count-told ∙ ap (λ n. Listed.Records n) two
+    let two = ap length (one-list-of-e1 xs all) in left (omega arith) .count-told ∙ ap (λ n. Listed.Records n) two
 
 pub e1-is-not-listed : (records : List Candidate) → length records ≡ 1
     → (listEffect e1 4 (picked (e1 .net) 4) records) .answer ≡ Listed.NoRoom 2
 e1-is-not-listed records room =
     let (xs, all, left, told) = window-has-the-list e1 4 (picked (e1 .net) 4) records root-window in
-    let two = two-records xs all in told (omega arith) .count-told ∙ ap (λ n. Listed.NoRoom n) two
+    let two = ap length (one-list-of-e1 xs all) in told (omega arith) .count-told ∙ ap (λ n. Listed.NoRoom n) two
 
 -- ---- applying
 
--- the first record: variable 3 in the place of the root
-pub by-variable-3 : IsGood (record { kind = 0; first = 6; second = 0; turned = 0; gain = 1 })
-unfolding e1 picked listed
-by-variable-3 = e1-listed .holds (record { kind = 0; first = 6; second = 0; turned = 0; gain = 1 }) .0 (here refl)
+-- variable 3 in the place of the root
+pub by-variable-3 : IsGood byVariable3
+by-variable-3 = e1-listed .holds byVariable3 .0 (here refl)
 
 literal-good : GoodProposal e1 4 (picked (e1 .net) 4) (literal 6)
 literal-good = good-record-is-a-good-proposal e1 4 (picked (e1 .net) 4) root-window _ by-variable-3

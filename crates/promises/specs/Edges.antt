@@ -106,9 +106,6 @@ evaluateEdges =
     ∷ evaluateCall oneGate (1 ∷ 0 ∷ 0 ∷ []) 2 gives (8 ∷ 99 ∷ 99 ∷ [])
     -- one place less than there are outputs, and just enough
     ∷ (evaluateCall oneGate (1 ∷ 0 ∷ []) 1 ++ evaluateCall oneGate (1 ∷ 0 ∷ []) 2) gives (16 ∷ 99 ∷ 0 ∷ 2 ∷ 1 ∷ 0 ∷ [])
-    -- 1,025 gates are not well formed; with 1,024 only the value is too much
-    ∷ (evaluateCall (graphOf 0 (replicate 2050 0) []) (1 ∷ []) 0 ++ evaluateCall (graphOf 0 (replicate 2048 0) []) (1 ∷ []) 0)
-    gives (7 ∷ 8 ∷ [])
     -- the lower number: half a gate and no value; a value too few and no room; half a gate and no room
     ∷ evaluateCall halfGate [] 1 gives (7 ∷ 99 ∷ [])
     ∷ evaluateCall oneGate (1 ∷ []) 1 gives (8 ∷ 99 ∷ [])
