@@ -1,4 +1,4 @@
--- What the promises exclude, each by an example that breaks one clause alone.
+-- What the promises exclude: an example for each clause that nothing else would miss.
 -- Assumes nothing.
 use mathlib.Core.Path.{refl, sym, ap}
 use mathlib.Core.Bool.{Bool, true, false, false≢true}
@@ -67,9 +67,9 @@ unfolding at
 first-place-wrong s = let e = ap (at 0) (s .first-places) in omega arith
 
 -- a work area that is left as it was
-pub work-left : (h : Graph) (result : RunBuffers) → ¬ RunHolds e1 h result (record { result = result .result; work = buffers 4 1 })
+pub work-left : (h : Graph) (before : RunBuffers) → ¬ RunHolds e1 h before (record { result = before .result; work = buffers 4 1 })
 unfolding at e1
-work-left h b r = let e = ap (at 0) (r .work-gates-zero .first-places) in omega arith
+work-left h before r = let e = ap (at 0) (r .work-gates-zero .first-places) in omega arith
 
 -- ---- demand 3
 
