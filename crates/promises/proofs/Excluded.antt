@@ -1,4 +1,4 @@
--- What the promises exclude: an example for each clause that nothing else would miss.
+-- What the promises exclude, by examples that break a clause.
 -- Assumes nothing.
 use mathlib.Core.Path.{refl, sym, ap}
 use mathlib.Core.Bool.{Bool, true, false, false≢true}
