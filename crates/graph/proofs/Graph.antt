@@ -24,6 +24,7 @@ use Rattle.graph.specs.Graph.{
   wellFormed,
   IsGate,
   WellFormed,
+  WellFormedNet,
 }
 use Rattle.graph.proofs.Lists.{
   and-left,
@@ -115,3 +116,17 @@ well-formed-test g w =
 
 pub well-formed-iff : (g : Graph) → (wellFormed g ≡ true) ↔ WellFormed g
 well-formed-iff g = (well-formed g, well-formed-test g)
+
+-- the net of a well formed graph
+pub net-well-formed : (g : Graph) → WellFormed g → WellFormedNet (g .net)
+net-well-formed g ok = record {
+  lawful = record {
+    even = ok .lawful .even;
+    ordered = ok .lawful .ordered;
+    below = ok .lawful .below;
+    sinks-within = λ j h. absurd (omega arith);
+  };
+  inputs-few = ok .inputs-few;
+  outputs-few = omega arith;
+  gates-few = ok .gates-few;
+}

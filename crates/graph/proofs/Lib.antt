@@ -4,6 +4,7 @@ pub mod Each
 pub mod Gather
 pub mod Graph
 pub mod Sweep
+pub mod Swept
 pub mod Marks
 pub mod Use
 pub mod Renumber

@@ -107,3 +107,7 @@ pub record WellFormed (g : Graph) : Type 0 where
   pub inputs-few : g .net .inputs ≤ mostInputs
   pub outputs-few : length (g .outputs) ≤ mostOutputs
   pub gates-few : size (g .net) ≤ mostGates
+
+-- the net of a graph that is well formed: what code asks for that looks at gates alone
+abbrev pub WellFormedNet : Net → Type 0
+WellFormedNet net = WellFormed (record { net = net; outputs = [] })
