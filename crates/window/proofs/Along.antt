@@ -23,11 +23,15 @@ use Rattle.window.proofs.Growing.{list-of, count-of, tidy-of}
 pub length-held : (X Y : Type 0) (f : X → Y) (l : List X) (n : ℕ) → length (map f l) ≡ n → length l ≡ n
 length-held X Y f l n e = sym (length-map l f) ∙ e
 
-numbers-at : (vs : List Var) (k : ℕ) → getD vs k (record { 0 = 0 }) .0 ≡ getD (numbers vs) k 0
+pub numbers-at : (vs : List Var) (k : ℕ) → getD vs k (record { 0 = 0 }) .0 ≡ getD (numbers vs) k 0
 unfolding numbers
 numbers-at [] k = refl
 numbers-at (v ∷ vs) zero = refl
 numbers-at (v ∷ vs) (suc k) = numbers-at vs k
+
+pub numbers-long : (vs : List Var) → length (numbers vs) ≡ length vs
+unfolding numbers
+numbers-long vs = length-map vs (λ (v : Var). v .0)
 
 -- a walk along the n leaves of w that stands before place k
 pub record Along (w : Leaves) (n k : ℕ) : Type 0 where
@@ -37,12 +41,11 @@ pub record Along (w : Leaves) (n k : ℕ) : Type 0 where
   pub within : k ≤ n
 
 pub along : (w : Leaves) (k : ℕ) → length (w .places) ≡ 6 → w .count ≤ leafLimit → k ≤ w .count → Along w (w .count) k
-unfolding numbers
 along w k six few h =
     record {
       counts = refl;
       few = few;
-      long = length-take-le (w .count) (numbers (w .places)) (omega (arith, length-map (w .places) (λ (v : Var). v .0)));
+      long = length-take-le (w .count) (numbers (w .places)) (omega (arith, numbers-long (w .places)));
       within = h;
     }
 

@@ -4,16 +4,15 @@ use mathlib.Core.Path.{_≡_, refl, sym, ap, ap₂, _∙_}
 use mathlib.Core.Bool.{Bool, true, false, cond}
 use mathlib.Core.List.{List, [], _∷_, _++_}
 use mathlib.Core.Option.{none, some}
-use Prim.Native.Nat.{ℕ, suc, _+_, _-_, _*_, _/_, _≤_, _<_}
-use native.Mathlib.Numerals.{add-one}
+use Prim.Native.Nat.{ℕ, suc, _+_, _-_, _≤_, _<_}
 use native.Mathlib.Omega.{arith}
 use borrow.Author.Tests.{leb-true, leb-false, eq-eqb, ne-eqb, le-leb, lt-leb}
 use lib.Dec.{leb}
-use lib.ListN.{length, getD, set, replicate, length-append}
+use lib.ListN.{length, set, replicate, length-append}
 use Rattle.graph.specs.declared.lit.Var.{Var}
 use Rattle.graph.specs.Lists.{filled}
 use Rattle.graph.specs.Literal.{varOf}
-use Rattle.graph.specs.Graph.{Net, netOf, first, second}
+use Rattle.graph.specs.Graph.{Net, first, second}
 use Rattle.window.specs.declared.leaf_set.Leaves.{Leaves}
 use Rattle.window.specs.declared.leaf_set.Grown.{Grown}
 use Rattle.window.specs.Leaves.{leafLimit, variables, leafList, leavesOf}
@@ -150,18 +149,7 @@ pub insert-put : (v : ℕ) (xs : List ℕ) → ¬ (v ≡ 0) → insert v xs ≡ 
 unfolding insert
 insert-put v xs n = rw (ne-eqb v 0 n)
 
--- ---- the fanin variables of a gate, as the code reads them
-
-module _ (inputs : ℕ) (gates : List ℕ) (v at : ℕ) (e : at ≡ v - (inputs + 1)) where
-  pub first-word : varOf (first (netOf inputs gates) v) ≡ getD gates (2 * at) 0 / 2
-  unfolding first
-  first-word = ap (λ (k : ℕ). getD gates (2 * k) 0 / 2) (sym (e ∙ ap (λ (k : ℕ). v - k) (add-one inputs)))
-
-  pub second-word : varOf (second (netOf inputs gates) v) ≡ getD gates (2 * at + 1) 0 / 2
-  unfolding second
-  second-word =
-      ap (λ (k : ℕ). getD gates k 0 / 2)
-      (sym (add-one (2 * at) ∙ ap (λ (k : ℕ). suc (2 * k)) (e ∙ ap (λ (k : ℕ). v - k) (add-one inputs))))
+-- ---- the fanin variables of a gate
 
 -- the fanin variables a and b put in one after the other, b first
 module _ (net : Net) (v a b : ℕ) (xs : List ℕ) (p : varOf (first net v) ≡ a) (q : varOf (second net v) ≡ b) where

@@ -6,7 +6,9 @@ pub mod Local
 pub mod Leaves
 pub mod Growing
 pub mod Along
+pub mod Places
 pub mod Sets
+pub mod Sizes
 pub mod Weight
 pub mod Expansions
 pub mod Smallest

@@ -18,11 +18,11 @@ use Rattle.window.specs.LeafRule.{put, insert, remove}
 -- ---- ascending
 
 module _ (x y : ℕ) (ys : List ℕ) where
-  ascends-head : ascendsFrom x (y ∷ ys) ≡ true → x < y
+  pub ascends-head : ascendsFrom x (y ∷ ys) ≡ true → x < y
   unfolding ascendsFrom
   ascends-head e = ltb-true x y (and-left _ (ascendsFrom y ys) e)
 
-  ascends-tail : ascendsFrom x (y ∷ ys) ≡ true → ascendsFrom y ys ≡ true
+  pub ascends-tail : ascendsFrom x (y ∷ ys) ≡ true → ascendsFrom y ys ≡ true
   unfolding ascendsFrom
   ascends-tail e = and-right (ltb x y) _ e
 

@@ -3,10 +3,11 @@
 use Prim.Native.Nat.{ℕ, _<_}
 use mathlib.Core.Path.{_≡_}
 use mathlib.Core.Bool.{Bool, true, false, cond, _&&_}
-use mathlib.Core.List.{List}
+use mathlib.Core.List.{List, [], _∷_}
 use mathlib.Core.Option.{Option, none, some, Option·map}
 use lib.Dec.{leb}
 use lib.ListN.{length, getD}
+use Rattle.graph.specs.Lists.{gather, keep}
 use Rattle.graph.specs.Literal.{varOf}
 use Rattle.graph.specs.Graph.{Net, free, first, second, IsGate}
 use Rattle.graph.specs.Sweep.{Algebra, bools, values, valueAt}
@@ -28,10 +29,20 @@ unfoldable pub coveredOwn : Net → Leaves → ℕ → Option Bool
 unfolding leafPlace
 coveredOwn net w v = elim (leafPlace w v) [ some j ↦ some true | none ↦ cond (leb v (free net)) (some false) none ]
 
+-- which of the variables 0 to n are covered
+unfoldable pub coveredUpTo : Net → Leaves → ℕ → List Bool
+unfolding values coverage coveredOwn
+coveredUpTo net w n = values coverage (coveredOwn net w) net n
+
 -- variable v is covered
 unfoldable pub covered : Net → Leaves → ℕ → Bool
 unfolding valueAt coverage coveredOwn
 covered net w v = valueAt coverage (coveredOwn net w) net v
+
+-- the covered variables below n, ascending
+unfoldable pub coveredBelow : Net → Leaves → ℕ → List ℕ
+unfolding keep gather covered
+coveredBelow net w n = keep (covered net w) (gather (λ v. v ∷ []) n)
 
 -- variable v passes this test; of the variables of a well-formed graph just the covered ones do (`covered-iff`)
 abbrev pub Tested : Net → Leaves → ℕ → Type 0

@@ -40,18 +40,20 @@ sameTable s t = eqb s t
 unfoldable pub words : Algebra ℕ
 words = record { no = 0; conj = bitAnd; neg = λ x. (2 ^ patterns - 1) - x }
 
--- the table of leaf j itself
-unfoldable pub leafPattern : ℕ → ℕ
-leafPattern j =
-    getD
-    (0xAAAAAAAAAAAAAAAA
+-- the tables of the leaves themselves
+unfoldable pub leafPatterns : List ℕ
+leafPatterns =
+    0xAAAAAAAAAAAAAAAA
     ∷ 0xCCCCCCCCCCCCCCCC
     ∷ 0xF0F0F0F0F0F0F0F0
     ∷ 0xFF00FF00FF00FF00
     ∷ 0xFFFF0000FFFF0000
     ∷ 0xFFFFFFFF00000000
-    ∷ [])
-    j 0
+    ∷ []
+
+unfoldable pub leafPattern : ℕ → ℕ
+unfolding leafPatterns
+leafPattern j = getD leafPatterns j 0
 
 -- the words of the variables 0 to n
 unfoldable pub wordsUpTo : Net → Leaves → ℕ → List ℕ

@@ -1,18 +1,20 @@
 // Leaf sets by value: each method hands back the changed set.
 ghost use mathlib.Core.Path.{_≡_};
+ghost use mathlib.Core.Bool.{true, cond, _&&_, _||_};
 ghost use mathlib.Core.List.{[], _∷_, _++_};
 ghost use mathlib.Core.Option.{none};
 ghost use Prim.Native.Nat.{_+_, _<_, _≤_};
-ghost use lib.ListN.{drop};
-ghost use Rattle.graph.specs.Lists.{isIn};
-ghost use Rattle.graph.specs.Graph.{netOf, mostInputs, IsGate};
-ghost use Rattle.window.specs.Leaves.{leafLimit, leafList, leavesOf};
+ghost use lib.Dec.{ltb, eqb};
+ghost use lib.ListN.{length, getD, drop};
+ghost use Rattle.graph.specs.Lists.{isIn, all, _∈_};
+ghost use Rattle.graph.specs.Graph.{netOf, mostInputs, IsGate, WellFormedNet};
+ghost use Rattle.window.specs.Leaves.{leafLimit, numbers, leafList, leavesOf, ascendsFrom, wellSet};
 ghost use Rattle.window.specs.LeafRule.{put, insert, remove, withFanins, expand};
 ghost use Rattle.window.specs.Growing.{grownOf, grownFrom, Tidy};
-use graph::Lit;
 use graph::Var;
+use graph::fanins_of;
 
-const LEAF_LIMIT: usize = 6;
+pub const LEAF_LIMIT: usize = 6;
 
 // A leaf set: how many leaves there are, and six places, ascending without repeats; unused places are 0.
 pub struct Leaves {
@@ -62,6 +64,67 @@ impl Leaves {
             k += 1;
         }
         false
+    }
+
+    // The leaf at place j, if there is one, is v.
+    pub fn is_at(self, j: usize, v: Var) -> bool
+        requires { ⌜ self .count ≤ leafLimit ⌝ }
+        ensures { λ r. ⌜ r ≡ ltb j (self .count) && eqb (getD (leafList self) j 0) (v .0) ⌝ }
+    {
+        if self.count <= j {
+            return false;
+        }
+        self.places[j].0 == v.0
+    }
+
+    // The leaves ascend from 1 on, and each is below the root.
+    fn ascends(self, root: Var) -> bool
+        requires { ⌜ self .count ≤ leafLimit ⌝ }
+        ensures { λ r. ⌜ r ≡ ascendsFrom 0 (leafList self) && all (λ v. ltb v (root .0)) (leafList self) ⌝ }
+    {
+        let n = self.count;
+        let mut before = 0;
+        let mut k = 0;
+        while k < n {
+            let leaf = self.places[k].0;
+            if leaf <= before {
+                return false;
+            }
+            if root.0 <= leaf {
+                return false;
+            }
+            before = leaf;
+            k += 1;
+        }
+        true
+    }
+
+    // The places that no leaf uses are 0.
+    fn rest_is_zero(self) -> bool
+        requires { ⌜ self .count ≤ leafLimit ⌝ }
+        ensures { λ r. ⌜ r ≡ all (λ x. eqb x 0) (drop (self .count) (numbers (self .places))) ⌝ }
+    {
+        let mut k = self.count;
+        while k < LEAF_LIMIT {
+            if self.places[k].0 != 0 {
+                return false;
+            }
+            k += 1;
+        }
+        true
+    }
+
+    // The leaves are well set down below the root, where the count and the places may be any numbers.
+    pub fn well_set(self, root: Var) -> bool
+        ensures { λ r. ⌜ r ≡ wellSet (root .0) self ⌝ }
+    {
+        if LEAF_LIMIT < self.count {
+            return false;
+        }
+        if !self.ascends(root) {
+            return false;
+        }
+        self.rest_is_zero()
     }
 
     // These leaves, and v after them.
@@ -163,15 +226,43 @@ impl Leaves {
         requires { ⌜ (self .count ≤ leafLimit) × (inputs ≤ mostInputs) × IsGate (netOf inputs (now gates)) (v .0) ⌝ }
         ensures { λ r. ⌜ r ≡ grownOf (withFanins (netOf inputs (now (gates .entry))) (v .0) (leafList self)) ⌝ }
     {
-        let at = 2 * (v.at() - (inputs + 1));
-        let first = Lit(gates[at]).var();
-        let second = Lit(gates[at + 1]).var();
-        let one = self.insert(second);
+        let gate = fanins_of(inputs, gates, v);
+        let one = self.insert(gate.second.var());
         if !one.fits {
             return one;
         }
         let leaves = one.leaves;
-        leaves.insert(first)
+        leaves.insert(gate.first.var())
+    }
+
+    // How many leaves there are more once v is put in.
+    fn added(self, v: Var) -> usize
+        requires { ⌜ self .count ≤ leafLimit ⌝ }
+        ensures { λ r. ⌜ r ≡ cond (eqb (v .0) 0 || isIn (v .0) (leafList self)) 0 1 ⌝ }
+    {
+        if v.0 == 0 {
+            return 0;
+        }
+        if self.has(v) {
+            return 0;
+        }
+        1
+    }
+
+    // How many leaves there are once the gate leaf is exchanged for its own fanin variables.
+    pub fn expanded_count(self, inputs: usize, gates: &[u32], leaf: Var) -> usize
+        requires { ⌜ (self .count ≤ leafLimit) × WellFormedNet (netOf inputs (now gates)) × IsGate (netOf inputs (now gates)) (leaf .0)
+            × (ascendsFrom 0 (leafList self) ≡ true) × (leaf .0 ∈ leafList self) ⌝ }
+        ensures { λ r. ⌜ r ≡ length (expand (netOf inputs (now (gates .entry))) (leafList self) (leaf .0)) ⌝ }
+    {
+        let gate = fanins_of(inputs, gates, leaf);
+        let first = gate.first.var();
+        let second = gate.second.var();
+        let with_second = self.count - 1 + self.added(second);
+        if first.0 == second.0 {
+            return with_second;
+        }
+        with_second + self.added(first)
     }
 
     // The gate leaf is exchanged for its own fanin variables.

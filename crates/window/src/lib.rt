@@ -6,5 +6,6 @@ mod truth;
 pub use answers::Picked;
 pub use answers::RootTable;
 pub use leaf_set::Grown;
+pub use leaf_set::LEAF_LIMIT;
 pub use leaf_set::Leaves;
 pub use truth::Table;
