@@ -1,135 +1,155 @@
--- The leaf rule turn by turn: the smallest expansion found leaf by leaf, what a turn keeps, and what it makes less.
+-- The leaf rule turn by turn: the best leaf found leaf by leaf, what a turn keeps, and what it makes less.
 -- Assumes nothing.
 use mathlib.Core.Path.{_≡_, refl, sym, ap, _∙_, subst}
-use mathlib.Core.Bool.{Bool, true, false, cond, false≢true}
-use mathlib.Core.List.{List, [], _∷_, _++_, map, map-append, append-nil}
-use mathlib.Core.Logic.{⊎-elim}
-use mathlib.Core.Option.{Option, none, some}
+use mathlib.Core.Bool.{Bool, true, false, cond}
+use mathlib.Core.List.{List, [], _∷_, _++_}
+use mathlib.Core.Logic.{_⊎_, inl, inr, ⊎-elim}
 use Prim.Native.Nat.{ℕ, _≤_, _<_}
+use native.Mathlib.Nat.{le-refl, le-trans, le-of-lt}
 use native.Mathlib.Omega.{arith}
-use borrow.Author.Tests.{le-leb, lt-leb, lt-ltb, le-ltb}
-use lib.Dec.{leb, ltb}
+use borrow.Author.Tests.{leb-true, leb-false, le-leb, lt-leb}
+use lib.Dec.{leb}
 use lib.ListN.{length}
-use Rattle.graph.specs.Lists.{keep}
-use Rattle.graph.specs.Graph.{Net, Graph, free, WellFormed, IsGate}
-use Rattle.graph.proofs.Lists.{at-most-or-above, keep-append}
+use Rattle.graph.specs.Lists.{_∈_, here, later}
+use Rattle.graph.specs.Graph.{Net, Graph, free, WellFormedNet, IsGate}
+use Rattle.graph.proofs.Members.{place-of}
 use Rattle.window.specs.declared.leaf_set.Leaves.{Leaves}
 use Rattle.window.specs.declared.leaf_set.Grown.{Grown}
-use Rattle.window.specs.Leaves.{leafLimit, leafList, leavesOf}
-use Rattle.window.specs.LeafRule.{withFanins, expand, expansions, smallestFrom, smallest, Chosen, Follows, stops, takes, picked}
-use Rattle.window.specs.Growing.{grownFrom, grownOf, Tidy}
-use Rattle.cutter.specs.Picking.{better, tried, LeavesWithin, Pickable}
-use Rattle.window.proofs.Growing.{list-of, tidy-of, fits, fits-not}
+use Rattle.window.specs.Leaves.{leafLimit, leafList, leavesOf, ascendsFrom}
+use Rattle.window.specs.LeafRule.{withFanins, expand, Expandable, Chosen, Follows, stops, takes, picked}
+use Rattle.window.specs.Growing.{grownOf, Tidy}
+use Rattle.cutter.specs.declared.rule.Choice.{Choice}
+use Rattle.cutter.specs.Picking.{noneYet, better, best, Choosing}
+use Rattle.window.proofs.Growing.{list-of, tidy-of, fits-leaves}
+use Rattle.window.proofs.Sets.{ascends-head, ascends-tail, ascends-above}
 use Rattle.window.proofs.Weight.{weight}
-use Rattle.window.proofs.Smallest.{none-smallest}
 use Rattle.window.proofs.Expansions.{CutUnder, fanins-length, start-cuts}
-use Rattle.window.proofs.Choice.{chosen, no-expandable}
 use Rattle.window.proofs.LeafRule.{chosen-cuts, chosen-weighs, rule-only}
 
--- ---- one more set to choose from
-
-last-smallest : (best : List ℕ) (xss : List (List ℕ)) (ys : List ℕ)
-    → smallestFrom best (xss ++ (ys ∷ [])) ≡ cond (leb (length ys) (length (smallestFrom best xss))) ys (smallestFrom best xss)
-unfolding smallestFrom
-last-smallest best [] ys = refl
-last-smallest best (xs ∷ xss) ys = last-smallest (cond (leb (length xs) (length best)) xs best) xss ys
-
-better-of : (b : Bool) (xs ys : List ℕ) → cond b (grownFrom (some ys)) (grownFrom (some xs)) ≡ grownFrom (some (cond b ys xs))
-better-of true xs ys = refl
-better-of false xs ys = refl
-
-better-some : (xss : List (List ℕ)) (ys : List ℕ)
-    → better (grownFrom (smallest xss)) (grownFrom (some ys)) ≡ grownFrom (smallest (xss ++ (ys ∷ [])))
-unfolding better grownFrom smallest smallestFrom leavesOf
-better-some [] ys = refl
-better-some (xs ∷ xss) ys =
-    better-of (leb (length ys) (length (smallestFrom xs xss))) (smallestFrom xs xss) ys
-    ∙ ap (λ (zs : List ℕ). grownFrom (some zs)) (sym (last-smallest xs xss ys))
-
-fits-some : (ys : List ℕ) → length ys ≤ leafLimit → grownOf ys ≡ grownFrom (some ys)
-unfolding grownFrom
-fits-some ys l = fits ys l
-
-better-none : (best : Grown) → better best (grownFrom none) ≡ best
-unfolding better grownFrom
-better-none best = refl
-
--- ---- the expansions of some of the leaves
-
-module _ {A : Type 0} (f : A → Bool) (x : A) where
-  kept : f x ≡ true → keep f (x ∷ []) ≡ x ∷ []
-  unfolding keep
-  kept e = ap {B = List A} (λ (b : Bool). elim b [ true ↦ x ∷ [] | false ↦ [] ]) e
-
-  kept-not : f x ≡ false → keep f (x ∷ []) ≡ []
-  unfolding keep
-  kept-not e = ap {B = List A} (λ (b : Bool). elim b [ true ↦ x ∷ [] | false ↦ [] ]) e
+-- ---- the best leaf, leaf by leaf
 
 module _ (net : Net) (xs : List ℕ) where
-  pub over : List ℕ → List (List ℕ)
-  over vs = keep (λ (ys : List ℕ). leb (length ys) leafLimit) (map (expand net xs) (keep (λ v. ltb (free net) v) vs))
+  abbrev Fits : ℕ → Type 0
+  Fits v = Expandable leafLimit net xs v
 
-  pub first-of : grownFrom (smallest (over [])) ≡ grownFrom none
-  unfolding over keep smallest
-  first-of = refl
+  abbrev sizeAt : ℕ → ℕ
+  sizeAt v = length (expand net xs v)
 
-  pub over-all : over xs ≡ expansions leafLimit net xs
-  unfolding over expansions
-  over-all = refl
+  -- the best of the leaves up to a: none of them can be expanded; or this one, the smallest, the highest on ties
+  record BestUpTo (a : ℕ) (c : Choice) : Type 0 where
+    few : c .count ≤ leafLimit
+    smallest : (u : ℕ) → u ≤ a → Fits u → c .count ≤ sizeAt u
+    highest : (u : ℕ) → u ≤ a → Fits u → c .leaf .0 < u → c .count < sizeAt u
+    which : ((c ≡ noneYet) × ((u : ℕ) → u ≤ a → ¬ Fits u)) ⊎ (Fits (c .leaf .0) × (c .count ≡ sizeAt (c .leaf .0)))
 
-  over-more : (vs : List ℕ) (v : ℕ) → over (vs ++ (v ∷ [])) ≡ over vs ++ over (v ∷ [])
-  unfolding over
-  over-more vs v =
-      ap (λ (us : List ℕ). keep (λ (ys : List ℕ). leb (length ys) leafLimit) (map (expand net xs) us))
-      (keep-append (λ u. ltb (free net) u) vs (v ∷ []))
-      ∙ ap (keep (λ (ys : List ℕ). leb (length ys) leafLimit))
-      (map-append (expand net xs) (keep (λ u. ltb (free net) u) vs) (keep (λ u. ltb (free net) u) (v ∷ [])))
-      ∙ keep-append (λ (ys : List ℕ). leb (length ys) leafLimit) (map (expand net xs) (keep (λ u. ltb (free net) u) vs)) _
+  -- which of the two is the better
+  module _ (c : Choice) (v : ℕ) where
+    pub better-input : v ≤ free net → better net xs c v ≡ c
+    unfolding better
+    better-input h = rw (le-leb v (free net) h)
 
-  over-input : (v : ℕ) → v ≤ free net → over (v ∷ []) ≡ []
-  unfolding over keep
-  over-input v h =
-      ap (λ (us : List ℕ). keep (λ (ys : List ℕ). leb (length ys) leafLimit) (map (expand net xs) us))
-      (kept-not (λ u. ltb (free net) u) v (le-ltb (free net) v h))
+    pub better-larger : free net < v → c .count < sizeAt v → better net xs c v ≡ c
+    unfolding better
+    better-larger h l = rw (lt-leb v (free net) h, lt-leb (sizeAt v) (c .count) l)
 
-  over-gate : (v : ℕ) → free net < v → over (v ∷ []) ≡ keep (λ (ys : List ℕ). leb (length ys) leafLimit) (expand net xs v ∷ [])
-  unfolding over
-  over-gate v g =
-      ap (λ (us : List ℕ). keep (λ (ys : List ℕ). leb (length ys) leafLimit) (map (expand net xs) us))
-      (kept (λ u. ltb (free net) u) v (lt-ltb (free net) v g))
+    pub better-taken : free net < v → (n : ℕ) → n ≡ sizeAt v → n ≤ c .count
+        → better net xs c v ≡ record { leaf = record { 0 = v }; count = n }
+    unfolding better
+    better-taken h n e l = rw (lt-leb v (free net) h, sym e, le-leb n (c .count) l)
 
-  over-few : (v : ℕ) → free net < v → length (expand net xs v) ≤ leafLimit → over (v ∷ []) ≡ expand net xs v ∷ []
-  over-few v g h =
-      over-gate v g ∙ kept (λ (ys : List ℕ). leb (length ys) leafLimit) (expand net xs v) (le-leb (length (expand net xs v)) leafLimit h)
+  -- one leaf more, where each leaf up to it is that one or was passed
+  module _ (a v : ℕ) (c : Choice) (leaf : v ∈ xs) (next : (u : ℕ) → u ≤ v → Fits u → (u ≤ a) ⊎ (u ≡ v)) (b : BestUpTo a c) where
+    -- one that cannot be expanded, or whose expansion is larger, changes nothing
+    kept : (Fits v → c .count < sizeAt v) → BestUpTo v c
+    kept larger = record {
+      few = b .few;
+      smallest = λ u h f. ⊎-elim (λ l. b .smallest u l f) (λ e. rw e (le-of-lt (larger (rw e at f)))) (next u h f);
+      highest = λ u h f k. ⊎-elim (λ l. b .highest u l f k) (λ e. rw e (larger (rw e at f))) (next u h f);
+      which = ⊎-elim (λ n. inl (n .0, λ u h f. ⊎-elim (λ l. n .1 u l f) (λ e. none-here (n .0) u e f) (next u h f))) inr (b .which);
+    }
+      where
+        none-here : c ≡ noneYet → (u : ℕ) → u ≡ v → ¬ Fits u
+        none-here n u e f = let g : Fits v = rw e at f in omega (arith, larger g, g .few, ap (λ (d : Choice). d .count) n)
 
-  over-many : (v : ℕ) → free net < v → leafLimit < length (expand net xs v) → over (v ∷ []) ≡ []
-  over-many v g h =
-      over-gate v g
-      ∙ kept-not (λ (ys : List ℕ). leb (length ys) leafLimit) (expand net xs v) (lt-leb (length (expand net xs v)) leafLimit h)
+    taken : free net < v → sizeAt v ≤ c .count → BestUpTo v (record { leaf = record { 0 = v }; count = sizeAt v })
+    taken gate small = record {
+      few = omega (arith, b .few);
+      smallest = λ u h f. ⊎-elim (λ l. le-trans small (b .smallest u l f)) (λ e. rw e (le-refl (sizeAt v))) (next u h f);
+      highest = λ u h f k. absurd (omega arith);
+      which = inr (record { is-leaf = leaf; is-gate = gate; few = omega (arith, b .few) }, refl);
+    }
 
-  same-best : (xss yss : List (List ℕ)) → yss ≡ [] → grownFrom (smallest xss) ≡ grownFrom (smallest (xss ++ yss))
-  same-best xss yss e =
-      ap (λ (zss : List (List ℕ)). grownFrom (smallest zss)) (sym (append-nil xss) ∙ ap (λ (zss : List (List ℕ)). xss ++ zss) (sym e))
+    better-up : BestUpTo v (better net xs c v)
+    unfolding better
+    better-up = go (leb v (free net)) (leb (sizeAt v) (c .count)) refl refl
+      where
+        go : (i s : Bool) → leb v (free net) ≡ i → leb (sizeAt v) (c .count) ≡ s
+            → BestUpTo v (cond i c (cond s (record { leaf = record { 0 = v }; count = sizeAt v }) c))
+        go true s p q = kept (λ f. absurd (omega (arith, f .is-gate, leb-true v (free net) p)))
+        go false true p q = taken (leb-false v (free net) p) (leb-true (sizeAt v) (c .count) q)
+        go false false p q = kept (λ f. leb-false (sizeAt v) (c .count) q)
 
-  tried-is : (v : ℕ) (xss : List (List ℕ)) → tried net xs v (grownFrom (smallest xss)) ≡ grownFrom (smallest (xss ++ over (v ∷ [])))
-  unfolding tried
-  tried-is v xss = ⊎-elim
-      (λ (h : v ≤ free net). rw (le-leb v (free net) h) (same-best xss (over (v ∷ [])) (over-input v h)))
-      (λ (h : free net < v). rw (lt-leb v (free net) h) (⊎-elim
-      (λ (l : length (expand net xs v) ≤ leafLimit).
-      ap (better (grownFrom (smallest xss))) (fits-some (expand net xs v) l)
-      ∙ better-some xss (expand net xs v)
-      ∙ ap (λ (yss : List (List ℕ)). grownFrom (smallest (xss ++ yss))) (sym (over-few v h l)))
-      (λ (l : leafLimit < length (expand net xs v)).
-      ap (better (grownFrom (smallest xss))) (fits-not (expand net xs v) l)
-      ∙ better-none (grownFrom (smallest xss))
-      ∙ same-best xss (over (v ∷ [])) (over-many v h l))
-      (at-most-or-above (length (expand net xs v)) leafLimit)))
-      (at-most-or-above v (free net))
+  -- the best of all leaves decides
+  pub data Decided (c : Choice) : Type 0 where
+    none-left : c .leaf .0 ≡ 0 → ((u : ℕ) → ¬ Fits u) → Decided c
+    chosen : Fits (c .leaf .0) → Chosen leafLimit net xs (expand net xs (c .leaf .0)) → Decided c
 
-  -- one more leaf is tried
-  pub tried-more : (vs : List ℕ) (v : ℕ) → tried net xs v (grownFrom (smallest (over vs))) ≡ grownFrom (smallest (over (vs ++ (v ∷ []))))
-  tried-more vs v = tried-is v (over vs) ∙ ap (λ (yss : List (List ℕ)). grownFrom (smallest yss)) (sym (over-more vs v))
+  all-up : (a : ℕ) (c : Choice) → ((u : ℕ) → Fits u → u ≤ a) → BestUpTo a c → Decided c
+  all-up a c all b = ⊎-elim
+      (λ n. none-left (ap (λ (d : Choice). d .leaf .0) (n .0)) (λ u f. n .1 u (all u f) f))
+      (λ f. chosen (f .0) (record {
+        leaf = c .leaf .0;
+        is-expandable = f .0;
+        expanded = refl;
+        none-smaller = λ u g. rw (sym (f .1)) (b .smallest u (all u g) g);
+        higher-larger = λ u g h. rw (sym (f .1)) (b .highest u (all u g) g h);
+      }))
+      (b .which)
+
+  best-up : (vs : List ℕ) (a : ℕ) (c : Choice) → ascendsFrom a vs ≡ true → ((u : ℕ) → Fits u → (u ≤ a) ⊎ (u ∈ vs))
+      → ((u : ℕ) → u ∈ vs → u ∈ xs) → BestUpTo a c → Decided (best net xs vs c)
+  unfolding best
+  best-up [] a c up rest from b = all-up a c (λ u f. ⊎-elim (λ l. l) (λ i. elim i [ ]) (rest u f)) b
+  best-up (v ∷ vs) a c up rest from b =
+      let above = ascends-tail a v vs up in
+      let high = ascends-head a v vs up in
+      best-up vs v (better net xs c v) above (λ u f. ⊎-elim (λ l. inl (omega arith)) (λ i. sorted u i) (rest u f))
+      (λ u i. from u (later i)) (better-up a v c (from v (here refl)) (λ u h f. ⊎-elim inl (λ i. inr (only u h i above)) (rest u f)) b)
+    where
+      sorted : (u : ℕ) → u ∈ (v ∷ vs) → (u ≤ v) ⊎ (u ∈ vs)
+      sorted u (here e) = inl (omega arith)
+      sorted u (later i) = inr i
+
+      only : (u : ℕ) → u ≤ v → u ∈ (v ∷ vs) → ascendsFrom v vs ≡ true → u ≡ v
+      only u h (here e) above = e
+      only u h (later i) above = let p = place-of 0 i in absurd (omega (arith, ascends-above v vs above (p .0) (p .1), p .2))
+
+  pub best-decides : ascendsFrom 0 xs ≡ true → Decided (best net xs xs noneYet)
+  best-decides up = best-up xs 0 noneYet up (λ u f. inr (f .is-leaf)) (λ u i. i) (record {
+    few = omega arith;
+    smallest = λ u h f. absurd (omega (arith, f .is-gate));
+    highest = λ u h f k. absurd (omega (arith, f .is-gate));
+    which = inl (refl, λ u h f. omega (arith, f .is-gate));
+  })
+
+  pub decided-on : {c : Choice} → Decided c → ¬ (c .leaf .0 ≡ 0)
+      → Fits (c .leaf .0) × Chosen leafLimit net xs (expand net xs (c .leaf .0))
+  decided-on (none-left e n) h = absurd (h e)
+  decided-on (chosen f c) h = (f, c)
+
+  pub decided-off : {c : Choice} → Decided c → c .leaf .0 ≡ 0 → (u : ℕ) → ¬ Fits u
+  decided-off (none-left e n) h = n
+  decided-off (chosen f c) h = absurd (omega (arith, f .is-gate))
+
+  -- leaf by leaf
+  pub best-none : (c : Choice) → best net xs [] c ≡ c
+  unfolding best
+  best-none c = refl
+
+  pub best-more : (vs : List ℕ) (v : ℕ) (c : Choice) → best net xs (vs ++ (v ∷ [])) c ≡ better net xs (best net xs vs c) v
+  unfolding best
+  best-more [] v c = refl
+  best-more (u ∷ vs) v c = best-more vs v (better net xs c u)
 
 -- ---- the turns of the rule
 
@@ -139,7 +159,7 @@ pub record Going (net : Net) (root : ℕ) (w : Leaves) : Type 0 where
   pub cut : CutUnder net root (leafList w)
   pub onward : (zs : List ℕ) → Follows leafLimit net (leafList w) zs → Follows leafLimit net (withFanins net root []) zs
 
-module _ (net : Net) (root : ℕ) (p : Pickable net root) where
+module _ (net : Net) (root : ℕ) (ok : WellFormedNet net) (gate : IsGate net root) where
   abbrev graph : Graph
   graph = record { net = net; outputs = [] }
 
@@ -148,73 +168,46 @@ module _ (net : Net) (root : ℕ) (p : Pickable net root) where
       let l = list-of w (withFanins net root []) e in
       record {
         tidy = tidy-of w (withFanins net root []) e (omega (arith, fanins-length net root []));
-        cut = subst (CutUnder net root) (sym l) (start-cuts graph (p .lawful) root (p .gate));
+        cut = subst (CutUnder net root) (sym l) (start-cuts graph (ok .lawful) root gate);
         onward = λ zs f. subst (λ (ys : List ℕ). Follows leafLimit net ys zs) l f;
       }
 
-  pub going-within : (w : Leaves) → Going net root w → LeavesWithin net (leafList w)
-  going-within w g = record { within = λ v i. omega (arith, g .cut .below-root v i, p .gate .within) }
-
-  module _ (w : Leaves) (g : Going net root w) (n : Grown) (e : n ≡ grownFrom (smallest (expansions leafLimit net (leafList w)))) where
-    found : n .fits ≡ true → (ys : List ℕ) × (smallest (expansions leafLimit net (leafList w)) ≡ some ys) × (n .leaves ≡ leavesOf ys)
-    unfolding grownFrom
-    found t = go (smallest (expansions leafLimit net (leafList w))) refl
-      where
-        go : (o : Option (List ℕ)) → smallest (expansions leafLimit net (leafList w)) ≡ o
-            → (ys : List ℕ) × (smallest (expansions leafLimit net (leafList w)) ≡ some ys) × (n .leaves ≡ leavesOf ys)
-        go (some ys) q = (ys, q, ap (λ (u : Grown). u .leaves) (e ∙ ap grownFrom q))
-        go none q = absurd (false≢true (sym (ap (λ (u : Grown). u .fits) (e ∙ ap grownFrom q)) ∙ t))
-
-    not-found : n .fits ≡ false → smallest (expansions leafLimit net (leafList w)) ≡ none
-    unfolding grownFrom
-    not-found t = go (smallest (expansions leafLimit net (leafList w))) refl
-      where
-        go : (o : Option (List ℕ)) → smallest (expansions leafLimit net (leafList w)) ≡ o
-            → smallest (expansions leafLimit net (leafList w)) ≡ none
-        go (some ys) q = absurd (false≢true (sym t ∙ ap (λ (u : Grown). u .fits) (e ∙ ap grownFrom q)))
-        go none q = q
-
-    choice : (t : n .fits ≡ true) → Chosen leafLimit net (leafList w) (found t .0)
-    choice t = chosen leafLimit net (leafList w) (found t .0) (g .cut .ascending) (found t .1)
-
-    -- a turn goes on
-    pub going-more : n .fits ≡ true → Going net root (n .leaves)
-    going-more t =
-        let ys = found t .0 in
-        let c = choice t in
-        let l = list-of (n .leaves) ys (found t .2) in
-        record {
-          tidy = tidy-of (n .leaves) ys (found t .2) (omega (arith, c .is-expandable .few, ap length (c .expanded)));
-          cut = subst (CutUnder net root) (sym l) (chosen-cuts graph (p .lawful) leafLimit root (p .gate) (leafList w) ys (g .cut) c);
-          onward = λ zs f. g .onward zs (takes c (subst (λ (us : List ℕ). Follows leafLimit net us zs) l f));
-        }
-
-    -- the sum of 2 ^ v over the leaves v falls
-    pub going-less : n .fits ≡ true → weight (leafList (n .leaves)) < weight (leafList w)
-    going-less t =
-        let ys = found t .0 in
-        subst (λ (us : List ℕ). weight us < weight (leafList w)) (sym (list-of (n .leaves) ys (found t .2)))
-        (chosen-weighs graph (p .lawful) leafLimit root (p .gate) (leafList w) ys (g .cut) (choice t))
-
-    -- where there is no expansion the rule has come to its end
-    pub going-end : n .fits ≡ false → w ≡ picked net root
-    unfolding picked
-    going-end t =
-        let f = stops (no-expandable leafLimit net (leafList w) (none-smallest (expansions leafLimit net (leafList w)) (not-found t))) in
-        sym (g .tidy .same) ∙ ap leavesOf (rule-only graph (p .lawful) leafLimit root (p .gate) (leafList w) (g .onward (leafList w) f))
-
--- a gate of a well formed graph can be asked for
-pub pickable : (g : Graph) (root : ℕ) → WellFormed g → IsGate (g .net) root → Pickable (g .net) root
-pickable g root w i =
-    record {
-      lawful =
-          record {
-            even = w .lawful .even;
-            ordered = w .lawful .ordered;
-            below = w .lawful .below;
-            sinks-within = λ j h. absurd
-                (omega arith);
-          };
-      gate = i;
-      inputs-few = w .inputs-few;
+  module _ (w : Leaves) (g : Going net root w) where
+    pub going-choosing : Choosing net w
+    going-choosing = record {
+      net-ok = ok;
+      few = g .tidy .few;
+      ascending = g .cut .ascending;
+      within = λ v i. omega (arith, g .cut .below-root v i, gate .within);
     }
+
+    -- a turn takes the expansion that is chosen
+    module _ (v : ℕ) (c : Chosen leafLimit net (leafList w) (expand net (leafList w) v)) (n : Grown)
+        (e : n ≡ grownOf (expand net (leafList w) v)) where
+      small : length (expand net (leafList w) v) ≤ leafLimit
+      small = omega (arith, c .is-expandable .few, ap length (c .expanded))
+
+      leaves-are : n .leaves ≡ leavesOf (expand net (leafList w) v)
+      leaves-are = fits-leaves n (expand net (leafList w) v) e small
+
+      pub going-more : Going net root (n .leaves)
+      going-more =
+          let l = list-of (n .leaves) (expand net (leafList w) v) leaves-are in
+          record {
+            tidy = tidy-of (n .leaves) (expand net (leafList w) v) leaves-are small;
+            cut = subst (CutUnder net root) (sym l) (chosen-cuts graph (ok .lawful) leafLimit root gate (leafList w) _ (g .cut) c);
+            onward = λ zs f. g .onward zs (takes c (subst (λ (us : List ℕ). Follows leafLimit net us zs) l f));
+          }
+
+      -- the sum of 2 ^ v over the leaves v falls
+      pub going-less : weight (leafList (n .leaves)) < weight (leafList w)
+      going-less =
+          subst (λ (us : List ℕ). weight us < weight (leafList w)) (sym (list-of (n .leaves) (expand net (leafList w) v) leaves-are))
+          (chosen-weighs graph (ok .lawful) leafLimit root gate (leafList w) _ (g .cut) c)
+
+    -- where no leaf can be expanded the rule has come to its end
+    pub going-end : ((u : ℕ) → ¬ Expandable leafLimit net (leafList w) u) → w ≡ picked net root
+    unfolding picked
+    going-end none =
+        sym (g .tidy .same)
+        ∙ ap leavesOf (rule-only graph (ok .lawful) leafLimit root gate (leafList w) (g .onward (leafList w) (stops none)))

@@ -1,31 +1,38 @@
--- What picking leaves turn by turn asks for and answers.
+-- What picking leaves turn by turn asks for and answers: the leaf whose expansion is the smallest.
 -- Assumes nothing.
 use Prim.Native.Nat.{ℕ, _≤_}
-use mathlib.Core.Bool.{cond}
-use mathlib.Core.List.{List, []}
+use mathlib.Core.Path.{_≡_}
+use mathlib.Core.Bool.{true, cond}
+use mathlib.Core.List.{List, [], _∷_}
 use lib.Dec.{leb}
+use lib.ListN.{length}
 use Rattle.graph.specs.Lists.{_∈_}
-use Rattle.graph.specs.Graph.{Net, free, last, mostInputs, IsGate, Lawful}
-use Rattle.window.specs.declared.leaf_set.Grown.{Grown}
+use Rattle.graph.specs.Graph.{Net, free, last, WellFormedNet}
+use Rattle.window.specs.declared.leaf_set.Leaves.{Leaves}
+use Rattle.window.specs.Leaves.{leafLimit, leafList, ascendsFrom}
 use Rattle.window.specs.LeafRule.{expand}
-use Rattle.window.specs.Growing.{grownOf}
+use Rattle.cutter.specs.declared.rule.Choice.{Choice}
 
--- the smaller of two sets that fit, the second on ties
-unfoldable pub better : Grown → Grown → Grown
-better best next =
-    cond (next .fits) (cond (best .fits) (cond (leb (next .leaves .count) (best .leaves .count)) next best) next) best
+-- no leaf yet: an expansion of at most six leaves is as good
+abbrev pub noneYet : Choice
+noneYet = record { leaf = record { 0 = 0 }; count = leafLimit }
 
--- the better of a set and the expansion of v, which only a gate has
-unfoldable pub tried : Net → List ℕ → ℕ → Grown → Grown
-unfolding better grownOf
-tried net xs v best = cond (leb v (free net)) best (better best (grownOf (expand net xs v)))
+-- the better of a choice and the expansion of v, which only a gate has: v's on ties
+unfoldable pub better : Net → List ℕ → Choice → ℕ → Choice
+unfolding expand
+better net xs best v =
+    cond (leb v (free net)) best
+    (cond (leb (length (expand net xs v)) (best .count)) (record { leaf = record { 0 = v }; count = length (expand net xs v) }) best)
 
--- each leaf is a variable of the net
-pub record LeavesWithin (net : Net) (xs : List ℕ) : Type 0 where
-  pub within : (v : ℕ) → v ∈ xs → v ≤ last net
+-- so with each of some leaves in turn
+unfoldable pub best : Net → List ℕ → List ℕ → Choice → Choice
+unfolding better
+best net xs [] choice = choice
+best net xs (v ∷ vs) choice = best net xs vs (better net xs choice v)
 
--- what picking leaves asks for: the gates keep their rules, the root is a gate, and there are not too many inputs
-pub record Pickable (net : Net) (root : ℕ) : Type 0 where
-  pub lawful : Lawful (record { net = net; outputs = [] })
-  pub gate : IsGate net root
-  pub inputs-few : net .inputs ≤ mostInputs
+-- leaves of a well formed net, in their places
+pub record Choosing (net : Net) (w : Leaves) : Type 0 where
+  pub net-ok : WellFormedNet net
+  pub few : w .count ≤ leafLimit
+  pub ascending : ascendsFrom 0 (leafList w) ≡ true
+  pub within : (v : ℕ) → v ∈ leafList w → v ≤ last net
