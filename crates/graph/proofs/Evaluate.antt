@@ -40,7 +40,7 @@ use Rattle.graph.proofs.Tests.{test-off, denial-on, denial-off}
 use Rattle.graph.proofs.Lent.{short-iff}
 
 module _ (net : Net) (a : ℕ → Bool) where
-  assigned-input : (v : ℕ) → v ≤ free net → assigned net a v ≡ some (a v)
+  pub assigned-input : (v : ℕ) → v ≤ free net → assigned net a v ≡ some (a v)
   unfolding assigned
   assigned-input v h = rw (le-leb v (free net) h)
 

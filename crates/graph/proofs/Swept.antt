@@ -47,7 +47,7 @@ module _ {A : Type 0} (K : Algebra A) (own : ℕ → Option A) (net : Net) (lent
   unfolding values written
   swept-zero h = written-next [] (K .no) lent h
 
-  swept-literal : (n l : ℕ) → varOf l ≤ n → litValue K (Swept n) l ≡ litValue K (values K own net n) l
+  pub swept-literal : (n l : ℕ) → varOf l ≤ n → litValue K (Swept n) l ≡ litValue K (values K own net n) l
   unfolding litValue
   swept-literal n l h =
       ap (turned K (isOdd l)) (written-at (values K own net n) lent (varOf l) (K .no) (omega (arith, values-length K own net n)))
