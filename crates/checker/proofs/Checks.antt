@@ -1,7 +1,7 @@
 -- What the code's tests of a graph come to, one at a time.
 -- Assumes nothing.
-use mathlib.Core.Path.{_≡_, refl, sym, _∙_}
-use mathlib.Core.Bool.{Bool, true, false, _&&_, false≢true}
+use mathlib.Core.Path.{_≡_, refl}
+use mathlib.Core.Bool.{Bool, true, false, _&&_}
 use mathlib.Core.List.{List}
 use Prim.Native.Nat.{ℕ, suc, _+_, _*_, _/_, _%_, _<_, _≤_}
 use native.Mathlib.Numerals.{add-one}
@@ -11,13 +11,8 @@ use lib.Dec.{leb, ltb}
 use lib.ListN.{length, getD}
 use Rattle.graph.specs.Lists.{every, allBelow, all}
 use Rattle.graph.specs.Graph.{netOf, graphOf, gateOk, sinkOk, rules, wellFormed, mostInputs, mostOutputs, mostGates}
-use Rattle.graph.proofs.Lists.{every-at, allBelow-at, all-at}
+use Rattle.graph.proofs.Lists.{fails-with, every-at, allBelow-at}
 use Rattle.graph.proofs.Graph.{first-at, second-at}
-
--- where c holds if b does, a c that fails decides b
-fails-with : (b c : Bool) → (b ≡ true → c ≡ true) → c ≡ false → b ≡ false
-fails-with true c h e = absurd (false≢true (sym e ∙ h refl))
-fails-with false c h e = refl
 
 -- ---- a test at each number in turn
 
@@ -29,11 +24,6 @@ module _ (f : ℕ → Bool) where
   -- one failure decides
   pub all-stop : (k n : ℕ) → k < n → f k ≡ false → allBelow f n ≡ false
   all-stop k n h e = fails-with _ _ (λ t. allBelow-at f n t k h) e
-
--- a test at each element in turn
-module _ (f : ℕ → Bool) where
-  pub each-stop : (xs : List ℕ) (k : ℕ) → k < length xs → f (getD xs k 0) ≡ false → all f xs ≡ false
-  each-stop xs k h e = fails-with _ _ (λ t. all-at f 0 xs t k h) e
 
 -- ---- a gate
 

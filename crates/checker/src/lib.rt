@@ -1,4 +1,7 @@
-// What every call on a lent graph asks first.
+// What every call on a lent graph asks first: that the graph is well formed, that there is room, and, in `usage`, which gates are in use.
+pub mod marks;
+pub mod usage;
+
 ghost use mathlib.Core.Path.{_≡_};
 ghost use mathlib.Core.Bool.{_||_};
 ghost use Prim.Native.Nat.{suc, _+_, _*_, _/_, _<_, _≤_};
@@ -32,7 +35,8 @@ fn gate_ok(inputs: usize, gates: &[u32], k: usize) -> bool
 
 fn gates_ok(inputs: usize, gates: &[u32]) -> bool
     requires { ⌜ (inputs ≤ mostInputs) × (length (now gates) ≤ 2 * mostGates) ⌝ }
-    ensures { λ r. ⌜ r ≡ allBelow (λ k. gateOk (netOf inputs (now (gates .entry))) (suc (inputs + k))) (length (now (gates .entry)) / 2) ⌝ }
+    ensures { λ r. ⌜ r
+        ≡ allBelow (λ k. gateOk (netOf inputs (now (gates .entry))) (suc (inputs + k))) (length (now (gates .entry)) / 2) ⌝ }
 {
     let count = gates.len() / 2;
     let mut k = 0;

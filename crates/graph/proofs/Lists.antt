@@ -59,6 +59,11 @@ and-right false b e = absurd (false≢true e)
 pub and-both : (a b : Bool) → a ≡ true → b ≡ true → a && b ≡ true
 and-both a b e h = rw (e, h)
 
+-- where c holds if b does, a c that fails decides b
+pub fails-with : (b c : Bool) → (b ≡ true → c ≡ true) → c ≡ false → b ≡ false
+fails-with true c h e = absurd (false≢true (sym e ∙ h refl))
+fails-with false c h e = refl
+
 -- every test of a list passes: the test at place k does
 pub every-at : (bs : List Bool) → every bs ≡ true → (k : ℕ) → getD bs k true ≡ true
 unfolding every
@@ -102,6 +107,10 @@ module _ {A : Type 0} (f : A → Bool) (d : A) where
   unfolding all
   all-of [] h = refl
   all-of (x ∷ xs) h = and-both (f x) (all f xs) (h 0 (zero-lt-suc (length xs))) (all-of xs (λ j l. h (suc j) (omega arith)))
+
+  -- one failure decides
+  pub all-not : (xs : List A) (j : ℕ) → j < length xs → f (getD xs j d) ≡ false → all f xs ≡ false
+  all-not xs j h e = fails-with _ _ (λ t. all-at xs t j h) e
 
 -- two functions that agree on the elements give the same list
 pub map-same : {A B : Type 0} (f h : A → B) (d : A) (xs : List A) → ((j : ℕ) → j < length xs → f (getD xs j d) ≡ h (getD xs j d))

@@ -3,7 +3,7 @@
 use mathlib.Core.Path.{_≡_, refl, sym, ap, ap₂, _∙_, subst}
 use mathlib.Core.Bool.{Bool, true, false, cond, false≢true}
 use mathlib.Core.List.{List, [], _∷_}
-use mathlib.Core.Logic.{_⊎_, ⊎-elim, _↔_}
+use mathlib.Core.Logic.{⊎-elim, _↔_}
 use Prim.Native.Nat.{ℕ, zero, suc, _+_, _≤_, _<_}
 use native.Mathlib.Nat.{le-refl}
 use native.Mathlib.Omega.{arith}
@@ -77,9 +77,16 @@ module _ (g : Graph) where
   down-sound zero ms h s = s
   down-sound (suc k) ms h s = down-sound k (markFanins (g .net) (var k) ms) (omega arith) (fanins-sound (var k) ms (var-gate k h) s)
 
+  -- the marks that a list of any length holds afterwards
+  abbrev pub marksOf : ℕ → List Bool
+  marksOf n = markDown (g .net) (size (g .net)) (markEach (sinks g) (replicate n false))
+
+  marked-sound : (n : ℕ) → Sound (marksOf n)
+  marked-sound n = down-sound (size (g .net)) _ (le-refl _) (outputs-sound n)
+
   pub marked-reached : (v : ℕ) → Marked (marks g) v → Reached g v
   unfolding marks Sound
-  marked-reached v m = down-sound (size (g .net)) _ (le-refl _) (outputs-sound (suc (last (g .net)))) v m
+  marked-reached v m = marked-sound (suc (last (g .net))) v m
 
   pub down-keeps : (k : ℕ) (ms : List Bool) (u : ℕ) → Marked ms u → Marked (markDown (g .net) k ms) u
   unfolding markDown
@@ -96,7 +103,7 @@ module _ (g : Graph) where
     second-lower v i = let b = ok .below v i in let o = ok .ordered v i in omega arith
 
     -- the pass over the gates up to the k-th marks nothing above them
-    down-low : (k : ℕ) (ms : List Bool) (u : ℕ) → k ≤ size (g .net) → free (g .net) + k ≤ u → Marked (markDown (g .net) k ms) u
+    pub down-low : (k : ℕ) (ms : List Bool) (u : ℕ) → k ≤ size (g .net) → free (g .net) + k ≤ u → Marked (markDown (g .net) k ms) u
         → Marked ms u
     unfolding markDown var
     down-low zero ms u h l m = m
@@ -130,24 +137,38 @@ module _ (g : Graph) where
         (after _ (first-marked (g .net) v ms n (omega arith)), after _ (second-marked (g .net) v ms n (omega arith))))
         (at-most-or-above v (free (g .net) + k))
 
+    -- in a list with places for all variables
+    module _ (n : ℕ) (room : last (g .net) < n) where
+      fanins-have-marks : (v : ℕ) → IsGate (g .net) v → Marked (marksOf n) v
+          → Marked (marksOf n) (varOf (first (g .net) v)) × Marked (marksOf n) (varOf (second (g .net) v))
+      fanins-have-marks v i m =
+          down-closed (size (g .net)) _ (le-refl _) (omega (arith, each-length (sinks g) (replicate n false), length-replicate n false)) v
+          (i .above) (i .within) m
+
+      output-has-mark : (j : ℕ) → j < length (sinks g) → Marked (marksOf n) (varOf (getD (sinks g) j 0))
+      output-has-mark j h =
+          let b = ok .sinks-within j h in
+          down-keeps (size (g .net)) _ _ (each-marks (sinks g) _ j h (omega (arith, length-replicate n false)))
+
+      reached-has-mark : (v : ℕ) → Reached g v → Marked (marksOf n) v
+      reached-has-mark v (as-output j h) = output-has-mark j h
+      reached-has-mark v (as-first {v = u} i r) = fanins-have-marks u i (reached-has-mark u r) .0
+      reached-has-mark v (as-second {v = u} i r) = fanins-have-marks u i (reached-has-mark u r) .1
+
     pub fanins-are-marked : (v : ℕ) → IsGate (g .net) v → Marked (marks g) v
         → Marked (marks g) (varOf (first (g .net) v)) × Marked (marks g) (varOf (second (g .net) v))
     unfolding marks
-    fanins-are-marked v i m =
-        down-closed (size (g .net)) _ (le-refl _)
-        (omega (arith, each-length (sinks g) (replicate (suc (last (g .net))) false), length-replicate (suc (last (g .net))) false)) v
-        (i .above) (i .within) m
-
-    pub outputs-are-marked : (j : ℕ) → j < length (sinks g) → Marked (marks g) (varOf (getD (sinks g) j 0))
-    unfolding marks
-    outputs-are-marked j h =
-        let b = ok .sinks-within j h in
-        down-keeps (size (g .net)) _ _ (each-marks (sinks g) _ j h (omega (arith, length-replicate (suc (last (g .net))) false)))
+    fanins-are-marked = fanins-have-marks (suc (last (g .net))) (le-refl _)
 
     pub reached-marked : (v : ℕ) → Reached g v → Marked (marks g) v
-    reached-marked v (as-output j h) = outputs-are-marked j h
-    reached-marked v (as-first {v = u} i r) = fanins-are-marked u i (reached-marked u r) .0
-    reached-marked v (as-second {v = u} i r) = fanins-are-marked u i (reached-marked u r) .1
+    unfolding marks
+    reached-marked = reached-has-mark (suc (last (g .net))) (le-refl _)
+
+    -- a longer list holds the same marks
+    pub marks-longer : (n : ℕ) → last (g .net) < n → (v : ℕ) → getD (marksOf n) v false ≡ getD (marks g) v false
+    unfolding Sound
+    marks-longer n room v =
+        same-tests _ _ (λ m. reached-marked v (marked-sound n v m)) (λ m. reached-has-mark n room v (marked-reached v m))
 
     pub reached-within : (v : ℕ) → Reached g v → v ≤ last (g .net)
     reached-within v (as-output j h) = let b = ok .sinks-within j h in omega arith

@@ -10,8 +10,7 @@ use borrow.Author.Tests.{le-leb, lt-leb}
 use denote.Ref.{now}
 use lib.Dec.{leb}
 use lib.ListN.{length, getD}
-use Rattle.graph.proofs.Lists.{all-of}
-use Rattle.checker.proofs.Checks.{each-stop}
+use Rattle.graph.proofs.Lists.{all-of, all-not}
 use Rattle.checker.proofs.outputs_ok.Statement.{statement}
 use Rattle.checker.proofs.outputs_ok.Tie as tie
 
@@ -39,7 +38,7 @@ returns c =
     let outs = now (l .before .before .args .outputs) in
     let most = l .before .before .args .most in
     let over : most < getD outs (l .loop .k) 0 = omega (arith, c .before .wide .ensures) in
-    sym (each-stop (λ x. leb x most) outs (l .loop .k) (omega arith) (lt-leb _ _ over))
+    sym (all-not (λ x. leb x most) 0 outs (l .loop .k) (omega arith) (lt-leb _ _ over))
 
 add-k : tie.Need-add-k Inv-loop μ-loop
 add-k c = search needs

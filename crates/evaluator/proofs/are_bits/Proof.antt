@@ -10,8 +10,7 @@ use borrow.Author.Tests.{le-leb, lt-leb}
 use denote.Ref.{now}
 use lib.Dec.{leb}
 use lib.ListN.{length, getD}
-use Rattle.graph.proofs.Lists.{all-of}
-use Rattle.checker.proofs.Checks.{each-stop}
+use Rattle.graph.proofs.Lists.{all-of, all-not}
 use Rattle.evaluator.proofs.are_bits.Statement.{statement}
 use Rattle.evaluator.proofs.are_bits.Tie as tie
 
@@ -35,7 +34,7 @@ returns c =
     let l = c .before .before .before in
     let values = now (l .before .args .values) in
     let over : 1 < getD values (l .loop .k) 0 = omega arith in
-    sym (each-stop (λ x. leb x 1) values (l .loop .k) (omega arith) (lt-leb _ _ over))
+    sym (all-not (λ x. leb x 1) 0 values (l .loop .k) (omega arith) (lt-leb _ _ over))
 
 add-k : tie.Need-add-k Inv-loop μ-loop
 add-k c = search needs
