@@ -1,1 +1,4 @@
+pub mod Passed
+pub mod Sweeping
 pub mod Picking
+pub mod Verdicts

@@ -1,2 +1,94 @@
-// Windows.
+// Windows of a lent graph: the leaves that the rule picks for a root, and the root's table over leaves. What the crates above share stands
+// in the modules.
+pub mod cover;
+mod leaves_passed;
 pub mod rule;
+pub mod tables;
+
+ghost use mathlib.Core.Path.{_≡_};
+ghost use Rattle.graph.specs.Graph.{graphOf};
+ghost use Rattle.graph.specs.Refuse.{firstRefusal, verdictIs};
+ghost use Rattle.window.specs.Calls.{rootRefusals, pickAnswer, windowRefusals, tableAnswer};
+use checker::usage::in_use;
+use checker::well_formed;
+use cover::is_cut;
+use graph::Refusal;
+use graph::Var;
+use graph::Verdict;
+use rule::pick_leaves;
+use tables::root_table;
+use window::Leaves;
+use window::Picked;
+use window::RootTable;
+use window::Table;
+
+// Whether the root is a gate in use of a graph, or why not.
+fn root_verdict(inputs: usize, gates: &[u32], outputs: &[u32], root: Var) -> Verdict
+    ensures { λ r. ⌜ verdictIs r
+        ≡ firstRefusal (rootRefusals (graphOf inputs (now (gates .entry)) (now (outputs .entry))) (root .0)) ⌝ }
+{
+    if !well_formed(inputs, gates, outputs) {
+        return Verdict::Refused(Refusal::BadGraph);
+    }
+    if !in_use(inputs, gates, outputs, root) {
+        return Verdict::Refused(Refusal::BadRoot);
+    }
+    Verdict::Fine
+}
+
+// Whether the leaves besides are well set down and cut the root, or why not: what every call on a window asks first.
+pub fn window_verdict(
+    inputs: usize,
+    gates: &[u32],
+    outputs: &[u32],
+    root: Var,
+    leaves: Leaves,
+) -> Verdict
+    ensures { λ r. ⌜ verdictIs r
+        ≡ firstRefusal (windowRefusals (graphOf inputs (now (gates .entry)) (now (outputs .entry))) (root .0) leaves) ⌝ }
+{
+    match root_verdict(inputs, gates, outputs, root) {
+        Verdict::Refused(refusal) => Verdict::Refused(refusal),
+        Verdict::Fine => {
+            if !leaves.well_set(root) {
+                return Verdict::Refused(Refusal::BadLeaves);
+            }
+            if !is_cut(inputs, gates, leaves, root) {
+                return Verdict::Refused(Refusal::NotACut);
+            }
+            Verdict::Fine
+        }
+    }
+}
+
+// Picks leaves: the set that the leaf rule comes to; or why it is refused.
+pub fn pick(inputs: usize, gates: &[u32], outputs: &[u32], root: Var) -> Picked
+    ensures { λ r. ⌜ r ≡ pickAnswer (graphOf inputs (now (gates .entry)) (now (outputs .entry))) (root .0) ⌝ }
+{
+    match root_verdict(inputs, gates, outputs, root) {
+        Verdict::Refused(refusal) => Picked {
+            verdict: Verdict::Refused(refusal),
+            leaves: Leaves::none(),
+        },
+        Verdict::Fine => Picked {
+            verdict: Verdict::Fine,
+            leaves: pick_leaves(inputs, gates, root),
+        },
+    }
+}
+
+// Asks for the root's table over the leaves: its 64 bits; or why it is refused.
+pub fn table(inputs: usize, gates: &[u32], outputs: &[u32], root: Var, leaves: Leaves) -> RootTable
+    ensures { λ r. ⌜ r ≡ tableAnswer (graphOf inputs (now (gates .entry)) (now (outputs .entry))) (root .0) leaves ⌝ }
+{
+    match window_verdict(inputs, gates, outputs, root, leaves) {
+        Verdict::Refused(refusal) => RootTable {
+            verdict: Verdict::Refused(refusal),
+            table: Table::zero(),
+        },
+        Verdict::Fine => RootTable {
+            verdict: Verdict::Fine,
+            table: root_table(inputs, gates, leaves, root),
+        },
+    }
+}

@@ -63,6 +63,10 @@ module _ (g : Graph) (root : ℕ) where
   known-root : not (wellFormed g) ≡ false → not (inUse g root) ≡ false → WellFormed g × InUse g root
   known-root e f = let ok = known-graph g e in (ok, denial-off _ (root-iff ok) f)
 
+  pub root-accepted : firstRefusal (rootRefusals g root) ≡ none → WellFormed g × InUse g root
+  unfolding rootRefusals
+  root-accepted e = let s = none-silent rootRank BadRoot (rootRefusals g root) e in known-root (s .0 refl) (s .1 .0 refl)
+
   root-complete : (q : Refusal) → RootGiven g root q → ¬ Silent rootRank q (rootRefusals g root)
   unfolding rootRefusals
   root-complete q (bad-graph h) s = h (known-graph g (s .0 refl))
@@ -120,8 +124,7 @@ module _ (g : Graph) (root : ℕ) (w : Leaves) where
   unfolding windowRefusals rootRefusals ascends
   window-decides = decides-join (λ q. by-root) _ (root-decides g root) refl
       (λ e.
-      let s = none-silent rootRank BadRoot (rootRefusals g root) e in
-      let known = known-root g root (s .0 refl) (s .1 .0 refl) in (
+      let known = root-accepted g root e in (
         λ f. bad-leaves (denial-on _ (well-set-iff root w) f),
         λ _. (λ f. not-a-cut (denial-on _ (cut-iff (known .0) (known .1)) f), λ _. tt),
       ))
