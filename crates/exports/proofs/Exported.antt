@@ -5,7 +5,7 @@ use mathlib.Core.List.{List}
 use Prim.Native.Nat.{ℕ}
 use Rattle.graph.specs.Refuse.{Outcome}
 use Rattle.graph.specs.Lent.{written, Effect, _leaving_}
-use Rattle.exports.specs.Exported.{Told}
+use Rattle.exports.specs.Exported.{Told, noLists}
 
 pub answer-told : {A L : Type 0} (out : A → Outcome) (e : Effect A L) (x : A) (l : L) → x leaving l ≡ e → (n : ℕ) → n ≡ (out x) .number
     → (before after : List ℕ) → after ≡ written ((out x) .values) before → Told (out (e .answer)) (e .lent) before n after l
@@ -14,3 +14,8 @@ answer-told {A} {L} out e x l is n number before after values = record {
   values = values ∙ ap (λ (f : Effect A L). written ((out (f .answer)) .values) before) is;
   lists = ap (λ (f : Effect A L). f .lent) is;
 }
+
+-- the same of a call that no list is lent to
+pub value-told : {A : Type 0} (out : A → Outcome) (e x : A) → x ≡ e → (n : ℕ) → n ≡ (out x) .number
+    → (before after : List ℕ) → after ≡ written ((out x) .values) before → Told (out e) noLists before n after noLists
+value-told out e x is = answer-told out (e leaving noLists) x noLists (ap (λ y. y leaving noLists) is)

@@ -2,13 +2,18 @@
 -- Assumes nothing.
 use Prim.Native.Nat.{ℕ}
 use mathlib.Core.Path.{_≡_}
-use mathlib.Core.List.{List}
+use mathlib.Core.List.{List, []}
 use Rattle.graph.specs.Refuse.{Outcome}
 use Rattle.graph.specs.Graph.{graphOf}
 use Rattle.graph.specs.Lent.{written, Buffers, buffersOf, Effect}
+use Rattle.graph.specs.declared.evaluated.Evaluated.{Evaluated}
+use Rattle.graph.specs.Evaluate.{evaluateEffect, evaluatedOutcome}
 use Rattle.text.specs.declared.ReadText.{ReadText}
 use Rattle.text.specs.declared.WrittenText.{WrittenText}
 use Rattle.text.specs.Calls.{readEffect, readOutcome, writeEffect, writtenOutcome}
+use Rattle.window.specs.declared.leaf_set.Leaves.{Leaves}
+use Rattle.window.specs.Leaves.{variables}
+use Rattle.window.specs.Calls.{pickAnswer, pickOutcome, tableAnswer, tableOutcome}
 
 abbrev pub reads : List ℕ → List ℕ → List ℕ → Effect ReadText Buffers
 reads text gates outputs = readEffect text (buffersOf gates outputs)
@@ -21,6 +26,26 @@ writes inputs gates outputs bytes = writeEffect (graphOf inputs gates outputs) b
 
 abbrev pub writtenNumbers : ℕ → List ℕ → List ℕ → List ℕ → Outcome
 writtenNumbers inputs gates outputs bytes = writtenOutcome ((writes inputs gates outputs bytes) .answer)
+
+abbrev pub evaluates : ℕ → List ℕ → List ℕ → List ℕ → List ℕ → Effect Evaluated (List ℕ)
+evaluates inputs gates outputs assignment values = evaluateEffect (graphOf inputs gates outputs) assignment values
+
+abbrev pub evaluatedNumbers : ℕ → List ℕ → List ℕ → List ℕ → List ℕ → Outcome
+evaluatedNumbers inputs gates outputs assignment values = evaluatedOutcome ((evaluates inputs gates outputs assignment values) .answer)
+
+abbrev pub pickedNumbers : ℕ → List ℕ → List ℕ → ℕ → Outcome
+pickedNumbers inputs gates outputs root = pickOutcome (pickAnswer (graphOf inputs gates outputs) root)
+
+-- n leaves in these places
+abbrev pub leavesAt : ℕ → List ℕ → Leaves
+leavesAt n places = record { count = n; places = variables places }
+
+abbrev pub tableNumbers : ℕ → List ℕ → List ℕ → ℕ → Leaves → Outcome
+tableNumbers inputs gates outputs root w = tableOutcome (tableAnswer (graphOf inputs gates outputs) root w)
+
+-- what is left in lent lists where none is lent
+abbrev pub noLists : List ℕ
+noLists = []
 
 -- what a call in numbers comes to: its number, the numbers behind its references, which a refusal does not touch, and its lent lists
 pub record Told {L : Type 0} (outcome : Outcome) (lent : L) (before : List ℕ) (r : ℕ) (after : List ℕ) (left : L) : Type 0 where
