@@ -1,50 +1,58 @@
 //! Times of the proved calls against this program's, as ratios of one run.
 //! Both take turns, and the best turn of each counts. Each call must be
-//! accepted.
+//! accepted, and both sides must leave the same.
 
-use model::Graph;
-use samples::graphs::{self, Size};
-use samples::{texts, Random};
-use std::hint::black_box;
+mod sides;
+
+use sides::{Given, Lent};
 use std::io::{self, Write};
 use std::time::{Duration, Instant};
 
-const SEED: u64 = 1;
 const TURNS: usize = 40;
-const REPEATS: u32 = 50;
+
+/// What is timed: its name, how often it is done in a turn, and how each side
+/// does it, the proved one first.
+type Row = (&'static str, u32, Work, Work);
+type Work = fn(&mut Lent, &Given);
+
+const ROWS: [Row; 6] = [
+    ("read", 50, Lent::read_proved, Lent::read_second),
+    ("write", 50, Lent::write_proved, Lent::write_second),
+    ("read and write", 50, both_proved, both_second),
+    ("evaluate", 50, Lent::evaluate_proved, Lent::evaluate_second),
+    (
+        "leaf rule, all gates",
+        1,
+        Lent::pick_proved,
+        Lent::pick_second,
+    ),
+    (
+        "table, all gates",
+        1,
+        Lent::table_proved,
+        Lent::table_second,
+    ),
+];
+
+fn both_proved(lent: &mut Lent, given: &Given) {
+    lent.read_proved(given);
+    lent.write_proved(given);
+}
+
+fn both_second(lent: &mut Lent, given: &Given) {
+    lent.read_second(given);
+    lent.write_second(given);
+}
 
 pub fn bench(out: &mut dyn Write) -> io::Result<()> {
-    let size = Size {
-        inputs: 64,
-        gates: 1024,
-        outputs: 64,
-    };
-    let graph = graphs::exact(&mut Random::new(SEED), size);
-    let text = texts::plain(&graph);
-    writeln!(out, "{} gates, a text of {} bytes", size.gates, text.len())?;
-    let mut buffers = Buffers::default();
-    let mut others = Buffers::default();
-    let rows: [(&str, Work, Work); 3] = [
-        ("read", &mut |b| b.read_proved(&text), &mut |b| {
-            b.read_second(&text)
-        }),
-        ("write", &mut |b| b.write_proved(&graph), &mut |b| {
-            b.write_second(&graph)
-        }),
-        (
-            "read and write",
-            &mut |b| {
-                b.read_proved(&text);
-                b.write_proved(&graph);
-            },
-            &mut |b| {
-                b.read_second(&text);
-                b.write_second(&graph);
-            },
-        ),
-    ];
-    for (name, proved, second) in rows {
-        let (proved, second) = best(|| proved(&mut buffers), || second(&mut others));
+    let given = Given::new();
+    writeln!(out, "{}", given.title())?;
+    let mut lent = Lent::new(&given);
+    let mut other = Lent::new(&given);
+    for (name, repeats, proved, second) in ROWS {
+        let one = || proved(&mut lent, &given);
+        let (proved, second) = best(repeats, one, || second(&mut other, &given));
+        assert!(lent == other, "{name}: the sides leave different things");
         let ratio = proved.as_secs_f64() / second.as_secs_f64();
         writeln!(
             out,
@@ -54,63 +62,20 @@ pub fn bench(out: &mut dyn Write) -> io::Result<()> {
     Ok(())
 }
 
-type Work<'a> = &'a mut dyn FnMut(&mut Buffers);
-
-/// Lent memory, not cleared between calls.
-struct Buffers {
-    gates: Vec<u32>,
-    outputs: Vec<u32>,
-    bytes: Vec<u8>,
-    counts: [usize; 3],
-}
-
-impl Default for Buffers {
-    fn default() -> Buffers {
-        Buffers {
-            gates: vec![0; 2048],
-            outputs: vec![0; 64],
-            bytes: vec![0; 65_535],
-            counts: [0; 3],
-        }
-    }
-}
-
-impl Buffers {
-    fn read_proved(&mut self, text: &[u8]) {
-        let (gates, outputs) = (&mut self.gates, &mut self.outputs);
-        let number = proved::read(black_box(text), gates, outputs, &mut self.counts);
-        assert_eq!(number, 0);
-    }
-
-    fn read_second(&mut self, text: &[u8]) {
-        let answer = model::read(black_box(text), &mut self.gates, &mut self.outputs);
-        assert!(answer.is_ok());
-    }
-
-    fn write_proved(&mut self, graph: &Graph) {
-        let number = proved::write(black_box(graph), &mut self.bytes, &mut self.counts[0]);
-        assert_eq!(number, 0);
-    }
-
-    fn write_second(&mut self, graph: &Graph) {
-        assert!(model::write(black_box(graph), &mut self.bytes).is_ok());
-    }
-}
-
 /// The best time of one call of each.
-fn best(mut one: impl FnMut(), mut other: impl FnMut()) -> (Duration, Duration) {
+fn best(repeats: u32, mut one: impl FnMut(), mut other: impl FnMut()) -> (Duration, Duration) {
     let mut best = (Duration::MAX, Duration::MAX);
     for _ in 0..TURNS {
-        best.0 = best.0.min(timed(&mut one));
-        best.1 = best.1.min(timed(&mut other));
+        best.0 = best.0.min(timed(repeats, &mut one));
+        best.1 = best.1.min(timed(repeats, &mut other));
     }
     best
 }
 
-fn timed(work: &mut impl FnMut()) -> Duration {
+fn timed(repeats: u32, work: &mut impl FnMut()) -> Duration {
     let start = Instant::now();
-    for _ in 0..REPEATS {
+    for _ in 0..repeats {
         work();
     }
-    start.elapsed() / REPEATS
+    start.elapsed() / repeats
 }

@@ -2,6 +2,8 @@
 //! drawn sort by sort, each is given to both sides in buffers that are poisoned
 //! alike, and a tally says what came out.
 
+#[cfg(feature = "proved")]
+pub mod graph;
 mod tally;
 #[cfg(test)]
 mod tests;

@@ -32,6 +32,8 @@ const COMMANDS: &[(&str, Command)] = &[
     #[cfg(feature = "proved")]
     ("compare-text", Command::Compares(compare::text::compare)),
     #[cfg(feature = "proved")]
+    ("compare-graph", Command::Compares(compare::graph::compare)),
+    #[cfg(feature = "proved")]
     ("bench", Command::Prints(bench::bench)),
 ];
 

@@ -94,6 +94,22 @@ pub fn exact(random: &mut Random, size: Size) -> Graph {
     builder.with_outputs(random, size.outputs)
 }
 
+/// A graph of exactly this size in which each gate draws on the variable just
+/// before it and on one close by or among the first few, so that six leaves
+/// are enough however far the leaf rule goes down.
+pub fn chain(random: &mut Random, size: Size) -> Graph {
+    let mut builder = Builder::new(size.inputs);
+    for _ in 0..size.gates {
+        let before = builder.near(random, 0);
+        let other = match random.once_in(3) {
+            true => Var(random.word_between(0, before.var().0.min(3))).lit(random.coin()),
+            false => builder.near(random, 2),
+        };
+        builder.and(before, other);
+    }
+    builder.with_outputs(random, size.outputs)
+}
+
 /// Any size up to this one, in its upper half as a rule.
 fn up_to(random: &mut Random, most: Size) -> Size {
     let full = !random.once_in(4);

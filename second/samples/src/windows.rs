@@ -46,16 +46,36 @@ pub fn cut(random: &mut Random, graph: &Graph, root: Var) -> Leaves {
     leaves
 }
 
-/// One fault in a leaf set that is else well set down.
+/// A set with one leaf more or one fewer; one that cut may do so no more.
+pub fn one_leaf_changed(random: &mut Random, root: Var, leaves: Leaves) -> Leaves {
+    let vars: Vec<Var> = leaves.vars().collect();
+    if vars.is_empty() || random.coin() {
+        let more = Var(random.word_between(0, root.0.saturating_sub(1)));
+        return leaves.with(more).unwrap_or(leaves);
+    }
+    let gone = random.pick(&vars);
+    let rest = vars.into_iter().filter(|&leaf| leaf != gone);
+    Leaves::of(rest).unwrap_or(leaves)
+}
+
+/// Random leaves with one fault.
 pub fn bad_leaves(random: &mut Random, root: Var) -> Leaves {
-    let mut leaves = good_leaves(random, root);
+    let leaves = good_leaves(random, root);
+    with_fault(random, root, leaves)
+}
+
+/// A leaf set that is well set down, after one fault.
+pub fn with_fault(random: &mut Random, root: Var, mut leaves: Leaves) -> Leaves {
     let count = leaves.count;
     match random.between(0, 5) {
         0 => leaves.count = random.pick(&[7, 8, 64, 1 << 32, usize::MAX]),
         1 if count >= 2 => leaves.places[..count].reverse(),
         2 if count >= 2 => leaves.places[1] = leaves.places[0],
         3 if count >= 1 => leaves.places[0] = 0,
-        4 if count >= 1 => leaves.places[count - 1] = random.pick(&[root.0, root.0 + 1, u32::MAX]),
+        4 if count >= 1 => {
+            let past = root.0.saturating_add(1);
+            leaves.places[count - 1] = random.pick(&[root.0, past, u32::MAX]);
+        }
         _ if count < 6 => leaves.places[random.between(count, 5)] = 1,
         _ => leaves.count = 7,
     }

@@ -2,6 +2,7 @@
 
 use crate::{naive, roots};
 use model::{pick_leaves, Graph, Var};
+use samples::graphs::{Size, BIG};
 use samples::{graphs, windows, Random};
 
 fn assert_restated(_: &mut Random, graph: &Graph, root: Var) {
@@ -31,4 +32,19 @@ fn some_roots_need_more_expansions_than_there_are_gates_below() {
         })
     };
     assert!((0..2000).any(needs_more));
+}
+
+#[test]
+fn in_chains_the_rule_goes_down_to_the_inputs() {
+    let mut most = 0;
+    let chain = |random: &mut Random| {
+        let inputs = random.between(0, 8);
+        graphs::chain(random, Size { inputs, ..BIG })
+    };
+    roots::each(34, 300, chain, |_, graph, root| {
+        let (leaves, expansions) = naive::leaf_rule(graph, root);
+        assert!(leaves.vars().all(|leaf| graph.fanins(leaf).is_none()));
+        most = most.max(expansions);
+    });
+    assert!(most > 1024, "{most}");
 }

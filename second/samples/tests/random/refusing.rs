@@ -97,6 +97,31 @@ fn bad_leaves_are_refused() {
 }
 
 #[test]
+fn leaves_that_cut_are_refused_after_a_fault() {
+    let mut random = Random::new(58);
+    for _ in 0..3000 {
+        let (graph, root, leaves) = window(&mut random);
+        let leaves = windows::with_fault(&mut random, root, leaves);
+        let answer = table(&graph, root, &leaves);
+        assert_eq!(answer, Err(Refusal::BadLeaves), "{leaves:?}");
+    }
+}
+
+#[test]
+fn leaves_that_cut_do_so_or_not_with_one_leaf_changed() {
+    let mut random = Random::new(59);
+    let mut refused = 0;
+    for _ in 0..3000 {
+        let (graph, root, leaves) = window(&mut random);
+        let leaves = windows::one_leaf_changed(&mut random, root, leaves);
+        let answer = table(&graph, root, &leaves);
+        assert!(matches!(answer, Ok(_) | Err(Refusal::NotACut)));
+        refused += usize::from(answer.is_err());
+    }
+    assert!((300..2700).contains(&refused), "{refused}");
+}
+
+#[test]
 fn bad_proposals_are_refused() {
     let mut random = Random::new(54);
     for _ in 0..10_000 {

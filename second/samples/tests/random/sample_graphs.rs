@@ -1,7 +1,8 @@
 //! The samples are what they say they are.
 
+use model::Graph;
 use samples::edges::{edges, spoiled};
-use samples::{graphs, Random};
+use samples::{graphs, odd_graphs, Random};
 
 #[test]
 fn equal_seeds_give_equal_graphs() {
@@ -19,6 +20,7 @@ fn random_graphs_are_well_formed() {
     for _ in 0..100 {
         assert!(graphs::big(&mut random).is_well_formed());
         assert!(graphs::redundant(&mut random, graphs::BIG).is_well_formed());
+        assert!(graphs::chain(&mut random, graphs::BIG).is_well_formed());
     }
 }
 
@@ -35,6 +37,45 @@ fn spoiled_graphs_are_not_well_formed() {
     let mut random = Random::new(3);
     for _ in 0..2000 {
         assert!(!spoiled(&mut random).is_well_formed());
+    }
+}
+
+#[test]
+fn graphs_at_the_edge_of_a_rule_are_good_and_wrong() {
+    let mut random = Random::new(4);
+    let word_changed = |random: &mut Random| {
+        let graph = graphs::any(random);
+        odd_graphs::one_word_changed(random, graph)
+    };
+    for draw in [
+        word_changed,
+        odd_graphs::counts_at_limits,
+        odd_graphs::noise,
+    ] {
+        let drawn = (0..2000).map(|_| draw(&mut random));
+        let good = drawn.filter(|graph| graph.is_well_formed()).count();
+        assert!((100..1900).contains(&good), "{good}");
+    }
+}
+
+#[test]
+fn odd_gate_lists_and_too_many_inputs_are_not_well_formed() {
+    let mut random = Random::new(5);
+    for _ in 0..2000 {
+        let graph = graphs::any(&mut random);
+        assert!(!odd_graphs::odd_gate_list(&mut random, graph.clone()).is_well_formed());
+        let many = odd_graphs::too_many_inputs(&mut random, graph.clone());
+        assert!(!many.is_well_formed());
+        let inputs = graph.inputs;
+        assert!(Graph { inputs, ..many }.is_well_formed());
+    }
+}
+
+#[test]
+fn in_a_chain_each_gate_draws_on_the_variable_before_it() {
+    let graph = graphs::chain(&mut Random::new(6), graphs::MID);
+    for (gate, high, low) in graph.numbered_gates() {
+        assert!([high, low].iter().any(|lit| lit.var().0 + 1 == gate.0));
     }
 }
 

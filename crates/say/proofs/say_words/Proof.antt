@@ -1,10 +1,10 @@
--- `bench_runs::say_words` is safe and ends: k counts up to the number of words.
+-- `say::say_words` is safe and ends: k counts up to the number of words.
 -- Assumes nothing.
 use Prim.Native.Nat.{_-_, _≤_}
 use borrow.Author.Needs.{needs}
 use lib.ListN.{length}
-use Rattle.bench_runs.proofs.say_words.Statement.{statement}
-use Rattle.bench_runs.proofs.say_words.Tie as tie
+use Rattle.say.proofs.say_words.Statement.{statement}
+use Rattle.say.proofs.say_words.Tie as tie
 
 abbrev Inv-loop : tie.InvT-loop
 Inv-loop words k₀ k = k ≤ length words

@@ -1,0 +1,136 @@
+//! What is timed, on the proved side and on this program's.
+
+use model::leaves::leaf_rule;
+use model::window::{self, Window};
+use model::{Graph, Leaves, Var};
+use samples::graphs::{self, BIG};
+use samples::{assignments, texts, Random};
+use std::hint::black_box;
+
+const SEED: u64 = 1;
+
+/// What both sides are given: a graph at every limit, its text, an assignment,
+/// and the gates in use with the leaves that the rule picks.
+pub struct Given {
+    graph: Graph,
+    text: Vec<u8>,
+    assignment: Vec<u32>,
+    windows: Vec<(Var, Leaves)>,
+}
+
+impl Given {
+    pub fn new() -> Given {
+        let mut random = Random::new(SEED);
+        let graph = graphs::exact(&mut random, BIG);
+        let marks = graph.marks();
+        let gates = graph.numbered_gates().map(|gate| gate.0);
+        let in_use = gates.filter(|gate| marks[gate.index()]);
+        Given {
+            text: texts::plain(&graph),
+            assignment: assignments::good(&mut random, graph.inputs),
+            windows: in_use.map(|gate| (gate, leaf_rule(&graph, gate))).collect(),
+            graph,
+        }
+    }
+
+    pub fn title(&self) -> String {
+        let (gates, in_use) = (self.graph.gate_count(), self.windows.len());
+        let length = self.text.len();
+        format!("{gates} gates, {in_use} in use, a text of {length} bytes")
+    }
+}
+
+/// One side's lent memory, not cleared between calls.
+#[derive(PartialEq)]
+pub struct Lent {
+    gates: Vec<u32>,
+    outputs: Vec<u32>,
+    counts: [usize; 3],
+    bytes: Vec<u8>,
+    length: usize,
+    values: Vec<u32>,
+    leaves: Vec<Leaves>,
+    tables: Vec<u64>,
+}
+
+impl Lent {
+    pub fn new(given: &Given) -> Lent {
+        Lent {
+            gates: vec![0; 2048],
+            outputs: vec![0; 64],
+            counts: [0; 3],
+            bytes: vec![0; 65_535],
+            length: 0,
+            values: vec![0; 64],
+            leaves: vec![Leaves::default(); given.windows.len()],
+            tables: vec![0; given.windows.len()],
+        }
+    }
+
+    pub fn read_proved(&mut self, given: &Given) {
+        let (gates, outputs) = (&mut self.gates, &mut self.outputs);
+        let number = proved::read(black_box(&given.text), gates, outputs, &mut self.counts);
+        assert_eq!(number, 0);
+    }
+
+    pub fn read_second(&mut self, given: &Given) {
+        let (gates, outputs) = (&mut self.gates, &mut self.outputs);
+        let answer = model::read(black_box(&given.text), gates, outputs);
+        let (inputs, gates, outputs) = answer.expect("the text is read");
+        self.counts = [inputs as usize, gates, outputs];
+    }
+
+    pub fn write_proved(&mut self, given: &Given) {
+        let graph = black_box(&given.graph);
+        let number = proved::write(graph, &mut self.bytes, &mut self.length);
+        assert_eq!(number, 0);
+    }
+
+    pub fn write_second(&mut self, given: &Given) {
+        let answer = model::write(black_box(&given.graph), &mut self.bytes);
+        self.length = answer.expect("the graph is written");
+    }
+
+    pub fn evaluate_proved(&mut self, given: &Given) {
+        let graph = black_box(&given.graph);
+        let mut count = 0;
+        let number = proved::evaluate(graph, &given.assignment, &mut self.values, &mut count);
+        assert_eq!((number, count), (0, graph.outputs.len()));
+    }
+
+    pub fn evaluate_second(&mut self, given: &Given) {
+        let graph = black_box(&given.graph);
+        let answer = model::evaluate(graph, &given.assignment, &mut self.values);
+        answer.expect("the graph is evaluated");
+    }
+
+    pub fn pick_proved(&mut self, given: &Given) {
+        for ((root, _), leaves) in given.windows.iter().zip(&mut self.leaves) {
+            let number = proved::pick(black_box(&given.graph), root.0, leaves);
+            assert_eq!(number, 0);
+        }
+    }
+
+    pub fn pick_second(&mut self, given: &Given) {
+        for ((root, _), leaves) in given.windows.iter().zip(&mut self.leaves) {
+            let answer = model::pick_leaves(black_box(&given.graph), *root);
+            *leaves = answer.expect("a gate in use has leaves");
+        }
+    }
+
+    pub fn table_proved(&mut self, given: &Given) {
+        for ((root, leaves), table) in given.windows.iter().zip(&mut self.tables) {
+            let number = proved::table(black_box(&given.graph), root.0, leaves, table);
+            assert_eq!(number, 0);
+        }
+    }
+
+    /// By whole words, as the lister does, and not pattern by pattern.
+    pub fn table_second(&mut self, given: &Given) {
+        for ((root, leaves), table) in given.windows.iter().zip(&mut self.tables) {
+            let graph = black_box(&given.graph);
+            window::check(graph, *root, leaves).expect("the leaves cut the root");
+            *table = Window::new(graph, *root, leaves).root_table();
+        }
+    }
+}
