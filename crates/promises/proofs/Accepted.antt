@@ -10,7 +10,6 @@ use native.Mathlib.Omega.{arith}
 use lib.ListN.{length, getD, take, length-map}
 use Rattle.graph.specs.declared.refusal.Refusal.{Refusal}
 use Rattle.graph.specs.declared.refusal.Refusal.the-variants.{BadGraph, BadRoot, NoRoom}
-use Rattle.graph.specs.declared.verdict.Verdict.{Verdict}
 use Rattle.graph.specs.Refuse.{firstRefusal, verdictOutcome}
 use Rattle.graph.specs.Lent.{short, Buffers, noRoomFor, storedIn}
 use Rattle.graph.specs.Graph.{Graph, sinks, WellFormed}
@@ -27,10 +26,10 @@ use Rattle.text.proofs.Reading.{reading-iff, reads-graph}
 use Rattle.text.proofs.Refusals.{write-answers}
 use Rattle.text.proofs.RoundTrip.{round-trip}
 use Rattle.window.specs.declared.leaf_set.Leaves.{Leaves}
-use Rattle.window.specs.Table.{table}
 use Rattle.window.specs.LeafRule.{picked}
 use Rattle.window.specs.Calls.{RootGiven, rootRefusals, pickAnswer, pickOutcome, windowRefusals, Window, tableAnswer, tableOutcome}
 use Rattle.window.proofs.Calls.{pick-answers, window-accepted}
+use Rattle.window.proofs.Table.{table-bit}
 use Rattle.window.proofs.LeafRule.{picked-well-set, picked-cuts}
 use Rattle.replacement.specs.declared.types.Proposal.{Proposal}
 use Rattle.replacement.specs.Rewire.{finished}
@@ -44,7 +43,7 @@ use Rattle.run.specs.Run.{run}
 use Rattle.run.specs.Calls.{RunBuffers, RunGiven, filledIn, runEffect, ranOutcome}
 use Rattle.run.proofs.Run.{run-well-formed, run-no-larger}
 use Rattle.run.proofs.Calls.{run-answers, run-none-given, run-clears-work}
-use Rattle.promises.specs.Promises.{Keeps, RunHolds, ReadAs, WrittenAs, EvaluatedAs, ListedAs, AppliedAs, RanAs}
+use Rattle.promises.specs.Promises.{Keeps, RunHolds, ReadAs, WrittenAs, EvaluatedAs, PickedAs, TableAs, ListedAs, AppliedAs, RanAs}
 use Rattle.promises.proofs.Meaning.{run-keeps, replacement-keeps}
 use Rattle.promises.proofs.Search.{run-ends-with-none-left}
 use Rattle.promises.proofs.Stored.{stored-written, holds-stored, filled-all}
@@ -124,26 +123,27 @@ module _ (g : Graph) (root : ℕ) (accepted : (pickOutcome (pickAnswer g root)) 
   pick-none-given = pick-answers g root .accepts .0 accepted
 
   -- the leaves that the rule picks make a window
-  pub pick-answers-leaves :
-      (pickAnswer g root ≡ record { verdict = Verdict.Fine; leaves = picked (g .net) root }) × Window g root (picked (g .net) root)
-  unfolding pickAnswer
-  pick-answers-leaves =
+  picked-window : Window g root (picked (g .net) root)
+  picked-window =
       let ok = decided _ (well-formed-iff g) (λ n. pick-none-given BadGraph (RootGiven.bad-graph n)) in
       let law = ok .lawful in
       let used = decided _ (in-use-iff g law root) (λ n. pick-none-given BadRoot (RootGiven.bad-root n)) in
-      let gate = used .is-gate in (
-        rw (pick-none, pickAnswer),
-        record { graph = ok; root-used = used; leaves = picked-well-set g law root gate; cut = picked-cuts g law root gate },
-      )
+      let gate = used .is-gate in
+      record { graph = ok; root-used = used; leaves = picked-well-set g law root gate; cut = picked-cuts g law root gate }
+
+  pub pick-answers-leaves : PickedAs g root (pickAnswer g root)
+  unfolding pickAnswer
+  pick-answers-leaves = rw (pick-none, pickAnswer) (record { accepted = refl; by-the-rule = refl; window = picked-window })
 
 module _ (g : Graph) (root : ℕ) (w : Leaves) (accepted : (tableOutcome (tableAnswer g root w)) .number ≡ 0) where
   table-none : firstRefusal (windowRefusals g root w) ≡ none
   unfolding tableAnswer tableOutcome verdictOutcome
   table-none = none-shown (firstRefusal (windowRefusals g root w)) _ (λ q e. rw (e, tableAnswer)) accepted
 
-  pub table-answers-table : tableAnswer g root w ≡ record { verdict = Verdict.Fine; table = record { 0 = table (g .net) w root } }
+  pub table-answers-table : TableAs g root w (tableAnswer g root w)
   unfolding tableAnswer
-  table-answers-table = rw (table-none, tableAnswer)
+  table-answers-table =
+      rw (table-none, tableAnswer) (record { accepted = refl; is-the-table = refl; bits = table-bit (g .net) w root })
 
 -- ---- listing
 

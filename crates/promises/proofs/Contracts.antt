@@ -1,4 +1,4 @@
--- What meets a call's contract: one result alone. Of the calls on texts: just what a text states is read, and a graph that is written and
+-- What meets a call's contract: one result alone, and what it then is. Just what a text states is read, and a graph that is written and
 -- read again is that graph.
 -- Assumes nothing.
 use mathlib.Core.Path.{_≡_, sym, ap, _∙_, subst⁻¹}
@@ -7,7 +7,10 @@ use Prim.Native.Nat.{ℕ, _≤_}
 use native.Mathlib.Omega.{arith}
 use lib.ListN.{length, take, length-take}
 use Rattle.graph.specs.declared.refusal.Refusal.{Refusal}
-use Rattle.graph.specs.Graph.{Graph, WellFormed}
+use Rattle.graph.specs.declared.evaluated.Evaluated.{Evaluated}
+use Rattle.graph.specs.Graph.{Graph, sinks, WellFormed}
+use Rattle.graph.specs.Evaluate.{Assignment, evaluateEffect}
+use Rattle.graph.specs.Use.{InUse}
 use Rattle.graph.specs.Lent.{Buffers, RoomFor, Effect, _leaving_}
 use Rattle.text.specs.declared.ReadText.{ReadText}
 use Rattle.text.specs.declared.WrittenText.{WrittenText}
@@ -16,8 +19,18 @@ use Rattle.text.specs.Reading.{yields, reading, Stated}
 use Rattle.text.specs.Calls.{readEffect, readOutcome, writeEffect, writtenOutcome}
 use Rattle.text.proofs.Reading.{reading-iff}
 use Rattle.text.proofs.Refusals.{write-answers}
-use Rattle.promises.specs.Promises.{ReadAs, readBack}
-use Rattle.promises.proofs.Granted.{stated-text-is-read, writing-has-no-refusal}
+use Rattle.window.specs.declared.leaf_set.Leaves.{Leaves}
+use Rattle.window.specs.declared.answers.Picked.{Picked}
+use Rattle.window.specs.declared.answers.RootTable.{RootTable}
+use Rattle.window.specs.Calls.{pickAnswer, Window, tableAnswer}
+use Rattle.promises.specs.Promises.{ReadAs, EvaluatedAs, PickedAs, TableAs, readBack}
+use Rattle.promises.proofs.Granted.{
+  stated-text-is-read,
+  writing-has-no-refusal,
+  assignment-is-evaluated,
+  gate-in-use-has-leaves,
+  window-has-its-table,
+}
 use Rattle.promises.proofs.Accepted.{read-stores-stated, write-stores-text, write-then-read}
 
 -- ---- one result
@@ -33,6 +46,34 @@ pub write-has-one-result : (g : Graph) (lent : List ℕ) (r s : WrittenText) (x 
     → s leaving y ≡ writeEffect g lent
     → (r ≡ s) × (x ≡ y)
 write-has-one-result g lent = one-effect
+
+pub evaluate-has-one-result : (g : Graph) (vs lent : List ℕ) (r s : Evaluated) (x y : List ℕ) → r leaving x ≡ evaluateEffect g vs lent
+    → s leaving y ≡ evaluateEffect g vs lent
+    → (r ≡ s) × (x ≡ y)
+evaluate-has-one-result g vs lent = one-effect
+
+pub pick-has-one-result : (g : Graph) (root : ℕ) (p q : Picked) → p ≡ pickAnswer g root → q ≡ pickAnswer g root → p ≡ q
+pick-has-one-result g root p q a b = a ∙ sym b
+
+pub table-has-one-result : (g : Graph) (root : ℕ) (w : Leaves) (t u : RootTable) → t ≡ tableAnswer g root w → u ≡ tableAnswer g root w
+    → t ≡ u
+table-has-one-result g root w t u a b = a ∙ sym b
+
+-- ---- what evaluating, picking leaves and asking for a table accept
+
+-- r and after are what evaluating g under vs with lent came to
+pub assignment-was-evaluated : (g : Graph) (vs lent after : List ℕ) (r : Evaluated) → r leaving after ≡ evaluateEffect g vs lent
+    → WellFormed g → Assignment (g .net) vs → length (sinks g) ≤ length lent
+    → EvaluatedAs g vs lent (r leaving after)
+assignment-was-evaluated g vs lent after r met ok assigns room =
+    subst⁻¹ (EvaluatedAs g vs lent) met (assignment-is-evaluated g vs lent ok assigns room)
+
+pub leaves-were-picked : (g : Graph) (root : ℕ) (p : Picked) → p ≡ pickAnswer g root → WellFormed g → InUse g root → PickedAs g root p
+leaves-were-picked g root p met ok used = subst⁻¹ (PickedAs g root) met (gate-in-use-has-leaves g root ok used)
+
+pub window-was-tabled : (g : Graph) (root : ℕ) (w : Leaves) (t : RootTable) → t ≡ tableAnswer g root w → Window g root w
+    → TableAs g root w t
+window-was-tabled g root w t met known = subst⁻¹ (TableAs g root w) met (window-has-its-table g root w known)
 
 -- ---- what reading accepts
 

@@ -1,13 +1,12 @@
 -- Demands 2 and 3 from their premises: what each call asks for, that it is then accepted, and what it answers and leaves.
 -- Assumes nothing.
-use mathlib.Core.Path.{_≡_, refl}
+use mathlib.Core.Path.{refl}
 use mathlib.Core.List.{List}
 use Prim.Native.Nat.{ℕ, _≤_, _<_}
 use native.Mathlib.Omega.{arith}
 use borrow.Author.Tests.{lt-ltb}
 use lib.ListN.{length}
 use Rattle.graph.specs.declared.refusal.Refusal.{Refusal}
-use Rattle.graph.specs.declared.verdict.Verdict.{Verdict}
 use Rattle.graph.specs.Lent.{short, Buffers, RoomFor}
 use Rattle.graph.specs.Graph.{Graph, WellFormed}
 use Rattle.graph.specs.Use.{InUse}
@@ -23,8 +22,6 @@ use Rattle.text.specs.Calls.{readEffect, writeEffect}
 use Rattle.text.proofs.Reading.{reading-iff, reads-graph}
 use Rattle.text.proofs.Refusals.{write-answers}
 use Rattle.window.specs.declared.leaf_set.Leaves.{Leaves}
-use Rattle.window.specs.Table.{table}
-use Rattle.window.specs.LeafRule.{picked}
 use Rattle.window.specs.Calls.{RootGiven, pickAnswer, Window, WindowGiven, tableAnswer}
 use Rattle.window.proofs.Calls.{window-decides, pick-answers, table-answers}
 use Rattle.replacement.specs.declared.types.Proposal.{Proposal}
@@ -39,7 +36,7 @@ use Rattle.listing.proofs.Calls.{list-answers}
 use Rattle.run.specs.Run.{run}
 use Rattle.run.specs.Calls.{RunBuffers, RunGiven, runEffect}
 use Rattle.run.proofs.Calls.{run-answers}
-use Rattle.promises.specs.Promises.{ReadAs, WrittenAs, EvaluatedAs, ListedAs, NoRoomToList, AppliedAs, RanAs}
+use Rattle.promises.specs.Promises.{ReadAs, WrittenAs, EvaluatedAs, PickedAs, TableAs, ListedAs, NoRoomToList, AppliedAs, RanAs}
 use Rattle.promises.proofs.Meaning.{replacement-keeps}
 use Rattle.promises.proofs.Stored.{holds-stored}
 use Rattle.promises.proofs.Accepted.{
@@ -92,8 +89,7 @@ module _ (g : Graph) (root : ℕ) (ok : WellFormed g) (used : InUse g root) wher
   picking-has-no-refusal q (RootGiven.bad-graph n) = n ok
   picking-has-no-refusal q (RootGiven.bad-root n) = n used
 
-  pub gate-in-use-has-leaves :
-      (pickAnswer g root ≡ record { verdict = Verdict.Fine; leaves = picked (g .net) root }) × Window g root (picked (g .net) root)
+  pub gate-in-use-has-leaves : PickedAs g root (pickAnswer g root)
   gate-in-use-has-leaves = pick-answers-leaves g root (pick-answers g root .accepts .1 picking-has-no-refusal)
 
 -- a window: a well-formed graph, a gate of it in use, and leaves well set down below it that cut it
@@ -103,7 +99,7 @@ module _ (g : Graph) (root : ℕ) (w : Leaves) (known : Window g root w) where
   window-has-no-refusal q (WindowGiven.bad-leaves n) = n (known .leaves)
   window-has-no-refusal q (WindowGiven.not-a-cut n) = n (known .cut)
 
-  pub window-has-its-table : tableAnswer g root w ≡ record { verdict = Verdict.Fine; table = record { 0 = table (g .net) w root } }
+  pub window-has-its-table : TableAs g root w (tableAnswer g root w)
   window-has-its-table = table-answers-table g root w (table-answers g root w .accepts .1 window-has-no-refusal)
 
 -- ---- the list

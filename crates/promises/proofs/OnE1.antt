@@ -17,7 +17,7 @@ use Rattle.graph.proofs.Evaluate.{assignment-iff}
 use Rattle.text.specs.States.{textOf}
 use Rattle.text.specs.Calls.{writeEffect}
 use Rattle.window.specs.LeafRule.{picked}
-use Rattle.window.specs.Calls.{Window}
+use Rattle.window.specs.Calls.{Window, tableAnswer}
 use Rattle.replacement.specs.Proposal.{literal}
 use Rattle.replacement.specs.Rewire.{finished}
 use Rattle.replacement.specs.Calls.{GoodProposal, applyEffect}
@@ -29,13 +29,14 @@ use Rattle.listing.proofs.Listing.{listed-is-every-good, the-list}
 use Rattle.run.specs.Run.{run}
 use Rattle.run.specs.Calls.{RunBuffers, runEffect}
 use Rattle.promises.specs.Calls.{buffers, lent}
-use Rattle.promises.specs.Promises.{WrittenAs, EvaluatedAs, AppliedAs, RanAs}
+use Rattle.promises.specs.Promises.{WrittenAs, EvaluatedAs, TableAs, AppliedAs, RanAs}
 use Rattle.promises.specs.Bench.{e1}
 use Rattle.promises.proofs.Search.{good-record-is-a-good-proposal}
 use Rattle.promises.proofs.Granted.{
   graph-is-written,
   assignment-is-evaluated,
   gate-in-use-has-leaves,
+  window-has-its-table,
   window-has-the-list,
   good-is-applied,
   graph-is-run,
@@ -52,7 +53,14 @@ unfolding inUse e1
 root-used = in-use-iff e1 (e1-well-formed .lawful) 4 .0 refl
 
 root-window : Window e1 4 (picked (e1 .net) 4)
-root-window = gate-in-use-has-leaves e1 4 e1-well-formed root-used .1
+root-window =
+    let as-picked = gate-in-use-has-leaves e1 4 e1-well-formed root-used in
+    subst (Window e1 4) (as-picked .by-the-rule) (as-picked .window)
+
+-- ---- picking leaves, and the root's table
+
+pub e1-is-tabled : TableAs e1 4 (picked (e1 .net) 4) (tableAnswer e1 4 (picked (e1 .net) 4))
+e1-is-tabled = window-has-its-table e1 4 (picked (e1 .net) 4) root-window
 
 -- ---- writing and evaluating
 

@@ -18,6 +18,14 @@ use Rattle.text.specs.declared.ReadText.{ReadText}
 use Rattle.text.specs.declared.WrittenText.{WrittenText}
 use Rattle.text.specs.States.{textOf}
 use Rattle.text.specs.Calls.{readEffect}
+use Rattle.graph.specs.declared.verdict.Verdict.{Verdict}
+use Rattle.window.specs.declared.leaf_set.Leaves.{Leaves}
+use Rattle.window.specs.declared.answers.Picked.{Picked}
+use Rattle.window.specs.declared.answers.RootTable.{RootTable}
+use Rattle.window.specs.Local.{localAt}
+use Rattle.window.specs.Table.{bit, patterns, table}
+use Rattle.window.specs.LeafRule.{picked}
+use Rattle.window.specs.Calls.{Window}
 use Rattle.replacement.specs.declared.types.Applied.{Applied}
 use Rattle.listing.specs.declared.Candidate.{Candidate}
 use Rattle.listing.specs.declared.Listed.{Listed}
@@ -84,6 +92,18 @@ pub record EvaluatedAs (g : Graph) (vs lent : List ℕ) (e : Effect Evaluated (L
   pub count-told : e .answer ≡ Evaluated.Outputs (length (g .outputs))
   pub stored : Stored (map (λ b. cond b 1 0) (outputsUnder g (assignmentOf vs))) lent (e .lent)
 
+-- leaves were picked for a root: they are the rule's, and make a window, well set down below the root and cutting it
+pub record PickedAs (g : Graph) (root : ℕ) (p : Picked) : Type 0 where
+  pub accepted : p .verdict ≡ Verdict.Fine
+  pub by-the-rule : p .leaves ≡ picked (g .net) root
+  pub window : Window g root (p .leaves)
+
+-- the root's table over these leaves was told: bit i is the root's local function at pattern i
+pub record TableAs (g : Graph) (root : ℕ) (w : Leaves) (t : RootTable) : Type 0 where
+  pub accepted : t .verdict ≡ Verdict.Fine
+  pub is-the-table : t .table .0 ≡ table (g .net) w root
+  pub bits : (i : ℕ) → i < patterns → bit (t .table .0) i ≡ localAt (g .net) w (bit i) root
+
 -- these records were listed; or there was no room for them, and their count was told
 pub record ListedAs (xs lent : List Candidate) (e : Effect Listed (List Candidate)) : Type 0 where
   pub count-told : e .answer ≡ Listed.Records (length xs)
@@ -121,6 +141,10 @@ abbrev pub WrittenAgain : Graph → List ℕ → Buffers → ReadText → Buffer
 WrittenAgain g bytes before r after =
     WellFormed g → length (textOf g) ≤ length bytes → RoomFor g before
     → ReadAs g before (r leaving after)
+
+-- leaves were picked for a root, and its table asked for over them: at a gate in use of a well-formed graph both are accepted
+abbrev pub PickedAndTabled : Graph → ℕ → Picked → RootTable → Type 0
+PickedAndTabled g root p t = WellFormed g → InUse g root → PickedAs g root p × TableAs g root (p .leaves) t
 
 -- a call was made twice, each time on lent memory of its own: where both held the same before, the answers are the same, and both
 -- hold the same after

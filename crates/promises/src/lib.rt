@@ -4,9 +4,13 @@ ghost use mathlib.Core.Path.{_≡_};
 ghost use Rattle.graph.specs.Graph.{graphOf};
 ghost use Rattle.graph.specs.Lent.{buffersOf, _leaving_};
 ghost use Rattle.text.specs.Calls.{readEffect, writeEffect};
-ghost use Rattle.promises.specs.Promises.{readBack, WrittenAgain, SameAgain};
+ghost use Rattle.window.specs.Calls.{pickAnswer, tableAnswer};
+ghost use Rattle.promises.specs.Promises.{readBack, WrittenAgain, PickedAndTabled, SameAgain};
+use graph::Var;
 use text::ReadText;
 use text::WrittenText;
+use window::Picked;
+use window::RootTable;
 
 // Writes a graph and reads what was written.
 pub fn write_then_read(
@@ -56,4 +60,21 @@ pub fn read_twice(
     let first = reader::read(text, gates, outputs);
     let second = reader::read(text, words, results);
     TwoAnswers { first, second }
+}
+
+// A root's leaves, and its table over them.
+pub struct LeavesAndTable {
+    pub picked: Picked,
+    pub table: RootTable,
+}
+
+// Picks a root's leaves and asks for its table over them.
+pub fn pick_then_table(inputs: usize, gates: &[u32], outputs: &[u32], root: Var) -> LeavesAndTable
+    ensures { λ r. ⌜ r .picked ≡ pickAnswer (graphOf inputs (now (gates .entry)) (now (outputs .entry))) (root .0) ⌝ }
+    ensures { λ r. ⌜ r .table ≡ tableAnswer (graphOf inputs (now (gates .entry)) (now (outputs .entry))) (root .0) (r .picked .leaves) ⌝ }
+    ensures { λ r. ⌜ PickedAndTabled (graphOf inputs (now (gates .entry)) (now (outputs .entry))) (root .0) (r .picked) (r .table) ⌝ }
+{
+    let picked = cutter::pick(inputs, gates, outputs, root);
+    let table = cutter::table(inputs, gates, outputs, root, picked.leaves);
+    LeavesAndTable { picked, table }
 }
