@@ -15,7 +15,7 @@ use samples::Random;
 use std::fmt::Debug;
 use std::io::{self, Write};
 use std::iter;
-use tally::Tally;
+use tally::{Calls, Tally};
 
 const SEED: u64 = 1;
 
@@ -30,11 +30,12 @@ pub struct Comparison<'a> {
 }
 
 impl<'a> Comparison<'a> {
-    /// Each of the answers must come, since one that never does is not compared.
-    pub fn new(answers: &'static [u32], out: &'a mut dyn Write) -> Comparison<'a> {
+    /// Each call must give each of its answers, since one that never comes is
+    /// not compared.
+    pub fn new(calls: Calls, out: &'a mut dyn Write) -> Comparison<'a> {
         Comparison {
             random: Random::new(SEED),
-            tally: Tally::new(answers),
+            tally: Tally::new(calls),
             out,
         }
     }

@@ -5,17 +5,20 @@
 mod arguments;
 mod graphs;
 
-use super::tally::Tally;
+use super::tally::{Calls, Tally};
 use super::{in_numbers, poisoned, Comparison};
 use model::{Graph, Leaves};
 use samples::{edges, Random};
 use std::io::{self, Write};
 
-/// The answers of the three calls.
-const ANSWERS: [u32; 7] = [0, 7, 8, 9, 10, 11, 16];
+const CALLS: Calls = &[
+    ("evaluate", &[0, 7, 8, 16]),
+    ("pick", &[0, 7, 9]),
+    ("table", &[0, 7, 9, 10, 11]),
+];
 
 pub fn compare(out: &mut dyn Write) -> io::Result<bool> {
-    let mut comparison = Comparison::new(&ANSWERS, out);
+    let mut comparison = Comparison::new(CALLS, out);
     comparison.sorts("graphs", &graphs::SORTS, same_answers)?;
     let edges = edges::edges().into_iter().map(|edge| edge.graph);
     let edges: Vec<Graph> = edges.collect();
@@ -40,7 +43,7 @@ fn same_values(random: &mut Random, graph: &Graph, tally: &mut Tally) -> bool {
         let number = proved::evaluate(graph, &assignment, &mut lent, &mut count);
         let expected = model::evaluate(graph, &assignment, &mut other);
         let expected = expected.map(|()| graph.outputs.len());
-        tally.answer(number);
+        tally.answer("evaluate", number);
         (number, count) == in_numbers(expected, poison) && lent == other
     })
 }
@@ -55,7 +58,7 @@ fn same_leaves(random: &mut Random, graph: &Graph, tally: &mut Tally) -> bool {
         let mut leaves = poison;
         let number = proved::pick(graph, root.0, &mut leaves);
         let expected = model::pick_leaves(graph, root);
-        tally.answer(number);
+        tally.answer("pick", number);
         (number, leaves) == in_numbers(expected, poison)
     })
 }
@@ -67,7 +70,7 @@ fn same_tables(random: &mut Random, graph: &Graph, tally: &mut Tally) -> bool {
         let mut bits = poison;
         let number = proved::table(graph, root.0, &leaves, &mut bits);
         let expected = model::table(graph, root, &leaves);
-        tally.answer(number);
+        tally.answer("table", number);
         (number, bits) == in_numbers(expected, poison)
     })
 }

@@ -6,16 +6,19 @@ use std::io::{self, Write};
 
 const MOST_SHOWN: usize = 5;
 
+/// The calls that are compared, each with its answers.
+pub type Calls = &'static [(&'static str, &'static [u32])];
+
 pub struct Tally {
     /// The answers that must come, and how often each did.
-    expected: &'static [u32],
-    answers: BTreeMap<u32, usize>,
+    expected: Calls,
+    answers: BTreeMap<(&'static str, u32), usize>,
     passed: usize,
     failed: usize,
 }
 
 impl Tally {
-    pub fn new(expected: &'static [u32]) -> Tally {
+    pub fn new(expected: Calls) -> Tally {
         Tally {
             expected,
             answers: BTreeMap::new(),
@@ -25,8 +28,8 @@ impl Tally {
     }
 
     /// Counts one call by the proved side's answer, which may be any number.
-    pub fn answer(&mut self, number: u32) {
-        *self.answers.entry(number).or_default() += 1;
+    pub fn answer(&mut self, call: &'static str, number: u32) {
+        *self.answers.entry((call, number)).or_default() += 1;
     }
 
     /// Counts one sample, whose calls all agree or not.
@@ -47,27 +50,32 @@ impl Tally {
         Ok(())
     }
 
-    /// The expected answers that never came.
-    fn missing(&self) -> Vec<u32> {
-        let mut missing = self.expected.to_vec();
-        missing.retain(|number| !self.answers.contains_key(number));
+    /// A call's expected answers that never came.
+    fn missing(&self, call: &'static str, expected: &[u32]) -> Vec<u32> {
+        let mut missing = expected.to_vec();
+        missing.retain(|&number| !self.answers.contains_key(&(call, number)));
         missing
     }
 
     /// Prints what was counted and answers whether nothing failed; a missing
     /// answer is a failure.
     pub fn report(&self, out: &mut dyn Write) -> io::Result<bool> {
-        let calls: usize = self.answers.values().sum();
-        write!(out, "{calls} calls; answers")?;
-        for (number, times) in &self.answers {
-            write!(out, " {number}: {times}")?;
+        let mut failed = self.failed;
+        for &(call, expected) in self.expected {
+            let answers = self.answers.iter().filter(|((of, _), _)| *of == call);
+            let calls: usize = answers.clone().map(|(_, times)| times).sum();
+            write!(out, "{call}: {calls} calls; answers")?;
+            for ((_, number), times) in answers {
+                write!(out, " {number}: {times}")?;
+            }
+            let missing = self.missing(call, expected);
+            if !missing.is_empty() {
+                write!(out, "; never {missing:?}")?;
+            }
+            writeln!(out)?;
+            failed += missing.len();
         }
-        let missing = self.missing();
-        if !missing.is_empty() {
-            write!(out, "; never {missing:?}")?;
-        }
-        let failed = self.failed + missing.len();
-        writeln!(out, "\n{} passed, {failed} failed", self.passed)?;
+        writeln!(out, "{} passed, {failed} failed", self.passed)?;
         Ok(failed == 0)
     }
 }

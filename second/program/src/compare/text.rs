@@ -4,7 +4,7 @@
 
 mod texts;
 
-use super::tally::Tally;
+use super::tally::{Calls, Tally};
 use super::{in_numbers, poisoned, Comparison};
 use model::graph::{MOST_GATES, MOST_OUTPUTS};
 use model::Graph;
@@ -12,12 +12,11 @@ use samples::{edges, graphs, Random};
 use std::io::{self, Write};
 use std::iter;
 
-/// The answers of the two calls.
-const ANSWERS: [u32; 9] = [0, 1, 2, 3, 4, 5, 6, 7, 16];
+const CALLS: Calls = &[("read", &[0, 1, 2, 3, 4, 5, 6, 16]), ("write", &[0, 7, 16])];
 const GRAPHS: usize = 4_000;
 
 pub fn compare(out: &mut dyn Write) -> io::Result<bool> {
-    let mut comparison = Comparison::new(&ANSWERS, out);
+    let mut comparison = Comparison::new(CALLS, out);
     comparison.sorts("texts", &texts::SORTS, |random, text, tally| {
         same_reading(random, text, tally)
     })?;
@@ -40,7 +39,7 @@ fn same_reading(random: &mut Random, text: &[u8], tally: &mut Tally) -> bool {
         let number = proved::read(text, &mut lent.0, &mut lent.1, &mut counts);
         let expected = model::read(text, &mut other.0, &mut other.1);
         let expected = expected.map(|(inputs, gates, outputs)| [inputs as usize, gates, outputs]);
-        tally.answer(number);
+        tally.answer("read", number);
         (number, counts) == in_numbers(expected, poison) && lent == other
     })
 }
@@ -89,7 +88,7 @@ fn same_writing(random: &mut Random, graph: &Graph, tally: &mut Tally) -> bool {
             let mut length = poison;
             let number = proved::write(graph, &mut lent, &mut length);
             let expected = model::write(graph, &mut other);
-            tally.answer(number);
+            tally.answer("write", number);
             (number, length) == in_numbers(expected, poison) && lent == other
         })
 }
