@@ -31,7 +31,7 @@ use Rattle.graph.proofs.Graph.{well-formed}
 use Rattle.graph.proofs.Swept.{swept-literal}
 use Rattle.graph.proofs.Evaluate.{assignment-iff}
 use Rattle.graph.proofs.Refuse.{none-silent}
-use Rattle.evaluator.specs.Outputs.{LiteralsKnown}
+use Rattle.evaluator.specs.Values.{LiteralsKnown}
 
 -- ---- the outputs of a graph that is swept
 

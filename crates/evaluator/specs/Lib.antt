@@ -1,1 +1,1 @@
-pub mod Outputs
+pub mod Values

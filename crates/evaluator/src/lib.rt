@@ -13,7 +13,7 @@ ghost use Rattle.graph.specs.Graph.{netOf, graphOf};
 ghost use Rattle.graph.specs.Refuse.{firstRefusal, verdictIs};
 ghost use Rattle.graph.specs.Sweep.{bools, litValue};
 ghost use Rattle.graph.specs.Evaluate.{isAssignment, evaluateRefusals, evaluateEffect};
-ghost use Rattle.evaluator.specs.Outputs.{LiteralsKnown};
+ghost use Rattle.evaluator.specs.Values.{LiteralsKnown};
 use checker::well_formed;
 use graph::Evaluated;
 use graph::Lit;
