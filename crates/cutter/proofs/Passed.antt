@@ -1,64 +1,55 @@
--- How many leaves an ascending sweep has passed: where it stands, and whether the next variable is the leaf at that place.
+-- The leaves that an ascending sweep has passed, and the next leaf: what it says of a variable is what the leaf set says.
 -- Assumes nothing.
 use mathlib.Core.Path.{_≡_, refl, sym, ap, _∙_}
-use mathlib.Core.Bool.{Bool, true, false, _&&_, false≢true}
+use mathlib.Core.Bool.{Bool, true, false, cond}
 use mathlib.Core.Logic.{⊎-elim}
 use mathlib.Core.Option.{Option, none, some}
 use Prim.Native.Nat.{ℕ, suc, _+_, _≤_, _<_}
 use native.Mathlib.Nat.{le-refl}
 use native.Mathlib.Omega.{arith}
-use borrow.Author.Tests.{ltb-true, eqb-true, lt-ltb, eq-eqb}
-use lib.Dec.{ltb, eqb}
+use borrow.Author.Tests.{eqb-true, eqb-false}
+use lib.Dec.{leb, eqb}
 use lib.ListN.{length, getD, length-take, List·getD-eq-default}
-use Rattle.graph.proofs.Lists.{at-most-or-above, and-left, and-right, and-both}
+use Rattle.graph.specs.Graph.{Net, free}
+use Rattle.graph.proofs.Lists.{at-most-or-above}
 use Rattle.graph.proofs.Members.{at-place, in-same}
 use Rattle.window.specs.declared.leaf_set.Leaves.{Leaves}
 use Rattle.window.specs.Leaves.{leafLimit, numbers, leafList, leafPlace, WellSet}
+use Rattle.window.specs.Local.{coveredOwn, leafOwn}
+use Rattle.window.specs.Table.{leafPattern}
 use Rattle.window.proofs.LeafPlaces.{leaf-found, leaf-missed}
-use Rattle.cutter.specs.Sweeping.{Passed}
+use Rattle.cutter.specs.declared.next_leaf.NextLeaf.{NextLeaf}
+use Rattle.cutter.specs.Sweeping.{Passed, Ahead, coveredAhead, tableAhead}
 
 leaves-few : (w : Leaves) → length (leafList w) ≤ w .count
 leaves-few w = omega (arith, length-take (w .count) (numbers (w .places)))
 
--- the code's test: the leaf at place j, if there is one, is v
-abbrev pub isAt : Leaves → ℕ → ℕ → Bool
-isAt w j v = ltb j (w .count) && eqb (getD (leafList w) j 0) v
-
-module _ (w : Leaves) (j v : ℕ) where
-  is-here : isAt w j v ≡ true → (j < w .count) × (getD (leafList w) j 0 ≡ v)
-  is-here e = (ltb-true _ _ (and-left _ (eqb (getD (leafList w) j 0) v) e), eqb-true _ _ (and-right (ltb j (w .count)) _ e))
-
-  not-here : isAt w j v ≡ false → j < w .count → ¬ (getD (leafList w) j 0 ≡ v)
-  not-here e h q = false≢true (sym e ∙ and-both _ _ (lt-ltb _ _ h) (eq-eqb _ _ q))
-
--- no leaf stands below variable 1
-pub passed-none : {root : ℕ} {w : Leaves} → WellSet root w → Passed w 1 0
-passed-none ok =
-    record {
-      few = ok .few;
-      ascending = ok .ascending;
-      within = omega arith;
-      before = λ i h. absurd (omega arith);
-      after = λ i _ h. ok .at-least-one i h;
-    }
+-- ---- j leaves passed: whether v is the leaf at place j
 
 module _ {w : Leaves} {v j : ℕ} (p : Passed w v j) where
-  pub passed-leaf : isAt w j v ≡ true → Passed w (suc v) (j + 1)
-  passed-leaf e =
-      let here = is-here w j v e in
-      record {
-        few = p .few;
-        ascending = p .ascending;
-        within = omega arith;
-        before = λ i h. ⊎-elim
-            (λ l. omega (arith, p .before i l))
-            (λ (l : j < suc i). let q : i ≡ j = omega arith in rw q (omega (arith, here .1)))
-            (at-most-or-above (suc i) j);
-        after = λ i h l. omega (arith, p .ascending j i (omega arith) l);
-      }
+  module _ (above : 0 < v) (here : getD (leafList w) j 0 ≡ v) where
+    -- past the leaves stands 0
+    inside : j < length (leafList w)
+    inside = ⊎-elim
+        (λ l. absurd (omega (arith, List·getD-eq-default (leafList w) 0 l)))
+        (λ l. l)
+        (at-most-or-above (length (leafList w)) j)
 
-  pub passed-other : isAt w j v ≡ false → Passed w (suc v) j
-  passed-other e =
+    passed-leaf : Passed w (suc v) (j + 1)
+    passed-leaf =
+        record {
+          few = p .few;
+          ascending = p .ascending;
+          within = omega (arith, inside, leaves-few w);
+          before = λ i h. ⊎-elim
+              (λ l. omega (arith, p .before i l))
+              (λ (l : j < suc i). let q : i ≡ j = omega arith in rw q (omega arith))
+              (at-most-or-above (suc i) j);
+          after = λ i h l. omega (arith, p .ascending j i (omega arith) l);
+        }
+
+  passed-other : ¬ (getD (leafList w) j 0 ≡ v) → Passed w (suc v) j
+  passed-other other =
       record {
         few = p .few;
         ascending = p .ascending;
@@ -66,15 +57,9 @@ module _ {w : Leaves} {v j : ℕ} (p : Passed w v j) where
         before = λ i h. omega (arith, p .before i h);
         after = λ i h l. ⊎-elim
             (λ m. omega (arith, p .after j (le-refl j) (omega arith), p .ascending j i m l))
-            (λ m.
-            let q : i ≡ j = omega arith in
-            let other = not-here w j v e (omega (arith, leaves-few w)) in
-            rw q (omega (arith, p .after j (le-refl j) (omega arith))))
+            (λ m. let q : i ≡ j = omega arith in rw q (omega (arith, p .after j (le-refl j) (omega arith))))
             (at-most-or-above (suc j) i);
       }
-
-  pub leaf-below-limit : isAt w j v ≡ true → j < leafLimit
-  leaf-below-limit e = omega (arith, p .few, is-here w j v e)
 
   -- if v is a leaf, it is the one at place j
   place-only : (i : ℕ) → leafPlace w v ≡ some i → i ≡ j
@@ -85,28 +70,79 @@ module _ {w : Leaves} {v j : ℕ} (p : Passed w v j) where
       omega (arith, p .after j (le-refl j) (omega (arith, found .0)), p .ascending j i l (found .0), found .1) in
       omega arith
 
-  pub leaf-at : 0 < v → isAt w j v ≡ true → leafPlace w v ≡ some j
-  leaf-at h e = go (leafPlace w v) refl
+  leaf-at : 0 < v → getD (leafList w) j 0 ≡ v → leafPlace w v ≡ some j
+  leaf-at above here = go (leafPlace w v) refl
     where
-      here : getD (leafList w) j 0 ≡ v
-      here = is-here w j v e .1
-
-      inside : j < length (leafList w)
-      inside = ⊎-elim
-          (λ l. absurd (omega (arith, here, List·getD-eq-default (leafList w) 0 l)))
-          (λ l. l)
-          (at-most-or-above (length (leafList w)) j)
-
       go : (o : Option ℕ) → leafPlace w v ≡ o → leafPlace w v ≡ some j
       go (some i) q = q ∙ ap some (place-only i q)
-      go none q = absurd (leaf-missed w v q (in-same (sym here) (at-place 0 (leafList w) j inside)))
+      go none q = absurd (leaf-missed w v q (in-same (sym here) (at-place 0 (leafList w) j (inside above here))))
 
-  pub no-leaf : isAt w j v ≡ false → leafPlace w v ≡ none
-  no-leaf e = go (leafPlace w v) refl
+  no-leaf : ¬ (getD (leafList w) j 0 ≡ v) → leafPlace w v ≡ none
+  no-leaf other = go (leafPlace w v) refl
     where
       go : (o : Option ℕ) → leafPlace w v ≡ o → leafPlace w v ≡ none
       go none q = q
-      go (some i) q =
-          let found = leaf-found w v i q in
-          let same = place-only i q in
-          absurd (not-here w j v e (omega (arith, leaves-few w)) (rw same at (found .1)))
+      go (some i) q = let same = place-only i q in absurd (other (rw same at (leaf-found w v i q .1)))
+
+-- ---- the next leaf
+
+-- no leaf stands below variable 1
+pub ahead-none : {root : ℕ} {w : Leaves} {next : NextLeaf} → WellSet root w
+    → next .place ≡ 0
+    → next .leaf .0 ≡ getD (leafList w) 0 0
+    → Ahead w 1 next
+ahead-none {w} ok e q =
+    let none-below : Passed w 1 0 =
+    record {
+      few = ok .few;
+      ascending = ok .ascending;
+      within = omega arith;
+      before = λ i h. absurd (omega arith);
+      after = λ i _ h. ok .at-least-one i h;
+    } in
+    record { passed = rw e none-below; leaf-is = rw e q }
+
+module _ {w : Leaves} {v : ℕ} {next : NextLeaf} (a : Ahead w v next) where
+  here-is : v ≡ next .leaf .0 → getD (leafList w) (next .place) 0 ≡ v
+  here-is e = sym (a .leaf-is) ∙ sym e
+
+  not-here : ¬ (v ≡ next .leaf .0) → ¬ (getD (leafList w) (next .place) 0 ≡ v)
+  not-here other q = other (sym q ∙ sym (a .leaf-is))
+
+  pub ahead-other : ¬ (v ≡ next .leaf .0) → Ahead w (suc v) next
+  ahead-other other = record { passed = passed-other (a .passed) (not-here other); leaf-is = a .leaf-is }
+
+  module _ (above : 0 < v) where
+    pub ahead-leaf : v ≡ next .leaf .0 → {after : NextLeaf}
+        → after .place ≡ next .place + 1
+        → after .leaf .0 ≡ getD (leafList w) (next .place + 1) 0
+        → Ahead w (suc v) after
+    ahead-leaf e p q = record { passed = rw p (passed-leaf (a .passed) above (here-is e)); leaf-is = rw p q }
+
+    pub place-below-limit : v ≡ next .leaf .0 → next .place < leafLimit
+    place-below-limit e = omega (arith, inside (a .passed) above (here-is e), leaves-few w, a .passed .few)
+
+    place-is : leafPlace w v ≡ cond (eqb v (next .leaf .0)) (some (next .place)) none
+    place-is = go (eqb v (next .leaf .0)) refl
+      where
+        go : (b : Bool) → eqb v (next .leaf .0) ≡ b → leafPlace w v ≡ cond b (some (next .place)) none
+        go true e = leaf-at (a .passed) above (here-is (eqb-true _ _ e))
+        go false e = no-leaf (a .passed) (not-here (eqb-false _ _ e))
+
+    pub covered-ahead : (net : Net) → coveredAhead net next v ≡ coveredOwn net w v
+    unfolding coveredAhead coveredOwn
+    covered-ahead net = go (eqb v (next .leaf .0)) place-is
+      where
+        go : (b : Bool) → leafPlace w v ≡ cond b (some (next .place)) none
+            → cond b (some true) (cond (leb v (free net)) (some false) none) ≡ coveredOwn net w v
+        go true e = rw (e, coveredOwn)
+        go false e = rw (e, coveredOwn)
+
+    pub table-ahead : tableAhead next v ≡ leafOwn w leafPattern v
+    unfolding tableAhead leafOwn
+    table-ahead = go (eqb v (next .leaf .0)) place-is
+      where
+        go : (b : Bool) → leafPlace w v ≡ cond b (some (next .place)) none
+            → cond b (some (leafPattern (next .place))) none ≡ leafOwn w leafPattern v
+        go true e = rw (e, leafOwn)
+        go false e = rw (e, leafOwn)

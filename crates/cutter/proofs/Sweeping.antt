@@ -3,12 +3,12 @@
 use mathlib.Core.Path.{_≡_, refl, sym, ap, ap₂, _∙_}
 use mathlib.Core.Bool.{Bool, true, false, cond, _&&_}
 use mathlib.Core.List.{List, [], _∷_, _++_, append-nil}
-use mathlib.Core.Option.{Option, none, some, Option·getD}
+use mathlib.Core.Option.{Option, Option·getD}
 use Prim.Native.Nat.{ℕ, zero, suc, _+_, _≤_, _<_}
 use native.Mathlib.Nat.{le-refl, le-of-suc-le-suc, not-suc-le-zero}
 use native.Mathlib.Numerals.{add-one}
 use native.Mathlib.Omega.{arith}
-use borrow.Author.Tests.{le-leb, lt-leb}
+use borrow.Author.Tests.{le-leb, lt-leb, eq-eqb, ne-eqb}
 use lib.ListN.{length, getD, set, length-append, length-set}
 use lib.Seq.{drop-set-lt}
 use Rattle.graph.specs.Lists.{gather, keep}
@@ -20,12 +20,13 @@ use Rattle.graph.proofs.Lists.{keep-append}
 use Rattle.graph.proofs.Sweep.{values-length, values-at, byGate-free, byGate-gate}
 use Rattle.graph.proofs.Swept.{written-at, written-length, written-next, Swept, swept-length, swept-zero, swept-more}
 use Rattle.window.specs.declared.leaf_set.Leaves.{Leaves}
-use Rattle.window.specs.Leaves.{leafPlace, WellSet}
+use Rattle.window.specs.Leaves.{leafList, WellSet}
 use Rattle.window.specs.Local.{coverage, coveredOwn, coveredUpTo, covered, coveredBelow, leafOwn}
 use Rattle.window.specs.Table.{words, leafPattern, wordsUpTo, table}
 use Rattle.window.proofs.Table.{words-are-tables}
-use Rattle.cutter.specs.Sweeping.{Passed, Sweeping, coveredIn}
-use Rattle.cutter.proofs.Passed.{isAt, passed-none, leaf-at, no-leaf}
+use Rattle.cutter.specs.declared.next_leaf.NextLeaf.{NextLeaf}
+use Rattle.cutter.specs.Sweeping.{Ahead, Sweeping, coveredAhead, tableAhead, coveredIn}
+use Rattle.cutter.proofs.Passed.{ahead-none, place-below-limit}
 
 -- inside the list the default is not asked for
 getD-inside : {A : Type 0} (xs : List A) (k : ℕ) (d e : A) → k < length xs → getD xs k d ≡ getD xs k e
@@ -52,7 +53,7 @@ module _ (tables : List ℕ) (l : ℕ) {t : ℕ} (e : t ≡ getD tables (varOf l
   unfolding litValue turned words
   table-plain h = rw (h, e)
 
-module _ {net : Net} {w : Leaves} {v j : ℕ} (s : Sweeping net w v j) where
+module _ {net : Net} {next : NextLeaf} {v : ℕ} (s : Sweeping net next v) where
   pub fanins-below : free net < v → (varOf (first net v) < v) × (varOf (second net v) < v)
   fanins-below h =
       let gate : IsGate net v = record { above = h; within = s .within } in
@@ -60,50 +61,43 @@ module _ {net : Net} {w : Leaves} {v j : ℕ} (s : Sweeping net w v j) where
       let order = s .net-ok .lawful .ordered v gate in
       (omega arith, omega arith)
 
-  module _ (leaf : isAt w j v ≡ true) where
-    leaf-place : leafPlace w v ≡ some j
-    leaf-place = leaf-at (s .passed) (s .above-zero) leaf
-
-    pub covered-leaf : (x : Bool) → Option·getD (coveredOwn net w v) x ≡ true
-    unfolding coveredOwn
-    covered-leaf x = rw (leaf-place, coveredOwn)
+  module _ (leaf : v ≡ next .leaf .0) where
+    pub covered-leaf : (x : Bool) → Option·getD (coveredAhead net next v) x ≡ true
+    unfolding coveredAhead
+    covered-leaf x = rw (coveredAhead, eq-eqb v (next .leaf .0) leaf)
 
     -- a leaf has its pattern, whatever its gate gives
-    pub table-leaf : (x : ℕ) → Option·getD (leafOwn w leafPattern v) x ≡ leafPattern j
-    unfolding leafOwn
-    table-leaf x = rw (leaf-place, leafOwn)
+    pub table-leaf : (x : ℕ) → Option·getD (tableAhead next v) x ≡ leafPattern (next .place)
+    unfolding tableAhead
+    table-leaf x = rw (tableAhead, eq-eqb v (next .leaf .0) leaf)
 
-  module _ (other : isAt w j v ≡ false) where
-    no-place : leafPlace w v ≡ none
-    no-place = no-leaf (s .passed) other
-
-    pub covered-input : v ≤ free net → (x : Bool) → Option·getD (coveredOwn net w v) x ≡ false
-    unfolding coveredOwn
-    covered-input h x = rw (no-place, coveredOwn, le-leb v (free net) h)
+  module _ (other : ¬ (v ≡ next .leaf .0)) where
+    pub covered-input : v ≤ free net → (x : Bool) → Option·getD (coveredAhead net next v) x ≡ false
+    unfolding coveredAhead
+    covered-input h x = rw (coveredAhead, ne-eqb v (next .leaf .0) other, le-leb v (free net) h)
 
     -- the code reads the two at places a and b
     pub covered-gate : free net < v → (covers : List Bool) {a b : ℕ} → v ≤ length covers
         → a ≡ varOf (first net v)
         → b ≡ varOf (second net v)
-        → Option·getD (coveredOwn net w v) (byGate coverage net v covers) ≡ getD covers a false && getD covers b false
-    unfolding coveredOwn coverage
+        → Option·getD (coveredAhead net next v) (byGate coverage net v covers) ≡ getD covers a false && getD covers b false
+    unfolding coveredAhead coverage
     covered-gate h covers room p q =
-        rw (no-place, coveredOwn, lt-leb v (free net) h, p, q)
+        rw (coveredAhead, ne-eqb v (next .leaf .0) other, lt-leb v (free net) h, p, q)
         (byGate-gate coverage net v covers h
         ∙ ap₂ _&&_
         (covered-literal covers (first net v) (omega (arith, fanins-below h)))
         (covered-literal covers (second net v) (omega (arith, fanins-below h))))
 
-    own-none : (x : ℕ) → Option·getD (leafOwn w leafPattern v) x ≡ x
-    unfolding leafOwn
-    own-none x = rw (no-place, leafOwn)
+    own-none : (x : ℕ) → Option·getD (tableAhead next v) x ≡ x
+    unfolding tableAhead
+    own-none x = rw (tableAhead, ne-eqb v (next .leaf .0) other)
 
-    pub table-input : v ≤ free net → (tables : List ℕ)
-        → Option·getD (leafOwn w leafPattern v) (byGate words net v tables) ≡ words .no
+    pub table-input : v ≤ free net → (tables : List ℕ) → Option·getD (tableAhead next v) (byGate words net v tables) ≡ words .no
     table-input h tables = own-none _ ∙ byGate-free words net v tables h
 
     pub table-gate : free net < v → (tables : List ℕ)
-        → Option·getD (leafOwn w leafPattern v) (byGate words net v tables)
+        → Option·getD (tableAhead next v) (byGate words net v tables)
         ≡ words .conj (litValue words tables (first net v)) (litValue words tables (second net v))
     table-gate h tables = own-none _ ∙ byGate-gate words net v tables h
 
@@ -114,32 +108,35 @@ front-over : {A : Type 0} (xs lent : List A) (x : A) → 0 < length xs → writt
 unfolding written
 front-over xs lent x h = ap (λ (rest : List _). xs ++ rest) (drop-set-lt (length xs) lent 0 x h)
 
--- a sweep of a lent list up to the root that has come to variable n; j leaves stand below the next one
-pub record Sweep {A : Type 0} (K : Algebra A) (own : ℕ → Option A) (net : Net) (w : Leaves) (root : ℕ) (lent list : List A) (j n : ℕ)
-    : Type 0 where
+-- a sweep of a lent list up to the root that has come to variable n, and the next leaf
+pub record Sweep {A : Type 0} (K : Algebra A) (own : ℕ → Option A) (net : Net) (w : Leaves) (root : ℕ) (lent list : List A)
+    (next : NextLeaf) (n : ℕ) : Type 0 where
   pub net-ok : WellFormedNet net
   pub known : root ≤ last net
   pub room : root < length lent
   pub within : n ≤ root
-  pub passed : Passed w (suc n) j
+  pub ahead : Ahead w (suc n) next
   pub swept : list ≡ Swept K own net lent n
 
 module _ {A : Type 0} {K : Algebra A} {own : ℕ → Option A} {net : Net} {w : Leaves} {root : ℕ} where
   module _ (lent : List A) (x : A) where
     pub sweep-none : x ≡ K .no → WellFormedNet net × (root ≤ last net) → WellSet root w × (root < length lent)
-        → Sweep K own net w root (set lent 0 x) (set lent 0 x) 0 0
-    sweep-none e (ok, known) (well, room) =
+        → {next : NextLeaf}
+        → next .place ≡ 0
+        → next .leaf .0 ≡ getD (leafList w) 0 0
+        → Sweep K own net w root (set lent 0 x) (set lent 0 x) next 0
+    sweep-none e (ok, known) (well, room) p q =
         record {
           net-ok = ok;
           known = known;
           room = simp length-set (omega arith);
           within = omega arith;
-          passed = passed-none well;
+          ahead = ahead-none well p q;
           swept = ap (set lent 0) e ∙ swept-zero K own net lent (omega arith)
               ∙ sym (front-over (values K own net 0) lent x (omega (arith, values-length K own net 0)));
         }
 
-    pub sweep-all : {list : List A} {j n : ℕ} → Sweep K own net w root (set lent 0 x) list j n → root ≤ n
+    pub sweep-all : {list : List A} {next : NextLeaf} {n : ℕ} → Sweep K own net w root (set lent 0 x) list next n → root ≤ n
         → list ≡ written (values K own net root) lent
     sweep-all {n} s h =
         let q : n ≡ root = omega arith in
@@ -147,27 +144,34 @@ module _ {A : Type 0} {K : Algebra A} {own : ℕ → Option A} {net : Net} {w : 
         ∙ front-over (values K own net n) lent x (omega (arith, values-length K own net n))
         ∙ ap (Swept K own net lent) q
 
-  module _ {lent list : List A} {j n : ℕ} (s : Sweep K own net w root lent list j n) where
+  module _ {lent list : List A} {next : NextLeaf} {n : ℕ} (s : Sweep K own net w root lent list next n) where
     pub sweep-length : length list ≡ length lent
     sweep-length = ap length (s .swept) ∙ swept-length K own net lent n (omega arith)
 
-    module _ (h : n < root) where
-      pub sweep-next : Sweeping net w (n + 1) j
-      sweep-next =
-          rw (add-one n) (record { net-ok = s .net-ok; above-zero = omega arith; within = omega arith; passed = s .passed })
+    pub sweep-ahead : Ahead w (n + 1) next × (0 < n + 1)
+    sweep-ahead = (rw (add-one n) (s .ahead), omega arith)
 
-      -- what the next variable has is set down at its place
-      pub sweep-more : (x : A) {at i : ℕ} → x ≡ Option·getD (own (n + 1)) (byGate K net (n + 1) list) → at ≡ n + 1
-          → Passed w (suc (n + 1)) i
-          → Sweep K own net w root lent (set list at x) i (n + 1)
-      sweep-more x {at} e q p =
-          let is : x ≡ Option·getD (own (suc n)) (byGate K net (suc n) (Swept K own net lent n)) = rw (add-one n, s .swept) at e in
+    module _ (h : n < root) where
+      pub sweep-next : Sweeping net next (n + 1)
+      sweep-next =
+          let (a, above) = sweep-ahead in
+          record { net-ok = s .net-ok; above-zero = above; within = omega arith; place-ok = place-below-limit a above }
+
+      -- what the next variable has is set down at its place; o is what it has itself, by the next leaf
+      pub sweep-more : (x : A) {o : Option A} {at : ℕ} {after : NextLeaf} → x ≡ Option·getD o (byGate K net (n + 1) list)
+          → o ≡ own (n + 1)
+          → at ≡ n + 1
+          → Ahead w (suc (n + 1)) after
+          → Sweep K own net w root lent (set list at x) after (n + 1)
+      sweep-more x {at} e o-is q a =
+          let is : x ≡ Option·getD (own (suc n)) (byGate K net (suc n) (Swept K own net lent n)) =
+          rw (o-is, add-one n, s .swept) at e in
           record {
             net-ok = s .net-ok;
             known = s .known;
             room = s .room;
             within = omega arith;
-            passed = p;
+            ahead = a;
             swept = rw (q, add-one n, s .swept) (swept-more K own net lent (s .net-ok) n x (omega arith) (omega arith) is);
           }
 

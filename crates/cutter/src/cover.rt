@@ -8,28 +8,23 @@ ghost use Rattle.graph.specs.Lent.{written};
 ghost use Rattle.graph.specs.Graph.{netOf, last, WellFormedNet};
 ghost use Rattle.graph.specs.Sweep.{byGate};
 ghost use Rattle.window.specs.Leaves.{WellSet};
-ghost use Rattle.window.specs.Local.{coverage, coveredOwn, coveredUpTo, covered};
-ghost use Rattle.cutter.specs.Sweeping.{Sweeping, coveredIn};
-use crate::leaves_passed::passed;
+ghost use Rattle.window.specs.Local.{coverage, coveredUpTo, covered};
+ghost use Rattle.cutter.specs.Sweeping.{Sweeping, coveredAhead, coveredIn};
+use crate::next_leaf::NextLeaf;
+use crate::next_leaf::leaf_from;
+use crate::next_leaf::passed;
 use graph::MOST_VARIABLES;
 use graph::Var;
 use graph::fanins_of;
 use window::Leaves;
 
-// Variable v is covered, where `covers` says it of those below it, and j leaves stand below v.
-fn is_covered(
-    inputs: usize,
-    gates: &[u32],
-    leaves: Leaves,
-    covers: &[bool],
-    v: Var,
-    j: usize,
-) -> bool
-    requires { ⌜ Sweeping (netOf inputs (now gates)) leaves (v .0) j × (v .0 ≤ length (now covers)) ⌝ }
-    ensures { λ r. ⌜ r ≡ Option·getD (coveredOwn (netOf inputs (now (gates .entry))) leaves (v .0))
+// Variable v is covered, where `covers` says it of those below it.
+fn is_covered(inputs: usize, gates: &[u32], covers: &[bool], v: Var, next: NextLeaf) -> bool
+    requires { ⌜ Sweeping (netOf inputs (now gates)) next (v .0) × (v .0 ≤ length (now covers)) ⌝ }
+    ensures { λ r. ⌜ r ≡ Option·getD (coveredAhead (netOf inputs (now (gates .entry))) next (v .0))
         (byGate coverage (netOf inputs (now (gates .entry))) (v .0) (now (covers .entry))) ⌝ }
 {
-    if leaves.is_at(j, v) {
+    if v.0 == next.leaf.0 {
         return true;
     }
     if v.at() <= inputs {
@@ -38,7 +33,7 @@ fn is_covered(
     let gate = fanins_of(inputs, gates, v);
     let first = covers[gate.first.var().at()];
     let second = covers[gate.second.var().at()];
-    first && second
+    first & second
 }
 
 // Which of the variables 0 to the root are covered stands at the front of `covers`.
@@ -49,14 +44,14 @@ pub fn cover(inputs: usize, gates: &[u32], leaves: Leaves, root: Var, covers: &m
         ≡ written (coveredUpTo (netOf inputs (now (gates .entry))) leaves (root .0)) (now (covers .entry)) ⌝ }
 {
     covers[0] = true;
-    let mut j = 0;
+    let mut next = leaf_from(leaves, 0);
     let mut n = 0;
     while n < root.0 {
         let v = Var(n + 1);
-        let is = is_covered(inputs, gates, leaves, covers, v, j);
+        let is = is_covered(inputs, gates, covers, v, next);
         let at = v.at();
         covers[at] = is;
-        j = passed(leaves, j, v);
+        next = passed(leaves, next, v);
         n = v.0;
     }
 }

@@ -8,10 +8,11 @@ ghost use Rattle.graph.specs.Lent.{written};
 ghost use Rattle.graph.specs.Graph.{netOf, last, WellFormedNet};
 ghost use Rattle.graph.specs.Sweep.{litValue, byGate};
 ghost use Rattle.window.specs.Leaves.{WellSet};
-ghost use Rattle.window.specs.Local.{leafOwn};
-ghost use Rattle.window.specs.Table.{words, leafPattern, wordsUpTo, table};
-ghost use Rattle.cutter.specs.Sweeping.{Sweeping};
-use crate::leaves_passed::passed;
+ghost use Rattle.window.specs.Table.{words, wordsUpTo, table};
+ghost use Rattle.cutter.specs.Sweeping.{Sweeping, tableAhead};
+use crate::next_leaf::NextLeaf;
+use crate::next_leaf::leaf_from;
+use crate::next_leaf::passed;
 use graph::Lit;
 use graph::MOST_VARIABLES;
 use graph::Var;
@@ -40,21 +41,14 @@ pub fn literal_table(tables: &[u64], l: Lit) -> Table
     t
 }
 
-// The table of variable v, where `tables` has those below it, and j leaves stand below v: a leaf has its pattern, even one that is a gate.
-fn variable_table(
-    inputs: usize,
-    gates: &[u32],
-    leaves: Leaves,
-    tables: &[u64],
-    v: Var,
-    j: usize,
-) -> Table
-    requires { ⌜ Sweeping (netOf inputs (now gates)) leaves (v .0) j × (v .0 ≤ length (now tables)) ⌝ }
-    ensures { λ r. ⌜ r .0 ≡ Option·getD (leafOwn leaves leafPattern (v .0))
+// The table of variable v, where `tables` has those below it: a leaf has its pattern, even one that is a gate.
+fn variable_table(inputs: usize, gates: &[u32], tables: &[u64], v: Var, next: NextLeaf) -> Table
+    requires { ⌜ Sweeping (netOf inputs (now gates)) next (v .0) × (v .0 ≤ length (now tables)) ⌝ }
+    ensures { λ r. ⌜ r .0 ≡ Option·getD (tableAhead next (v .0))
         (byGate words (netOf inputs (now (gates .entry))) (v .0) (now (tables .entry))) ⌝ }
 {
-    if leaves.is_at(j, v) {
-        return Table::of_leaf(j);
+    if v.0 == next.leaf.0 {
+        return Table::of_leaf(next.place);
     }
     if v.at() <= inputs {
         return Table::zero();
@@ -73,14 +67,14 @@ pub fn fill_tables(inputs: usize, gates: &[u32], leaves: Leaves, root: Var, tabl
         ≡ written (wordsUpTo (netOf inputs (now (gates .entry))) leaves (root .0)) (now (tables .entry)) ⌝ }
 {
     tables[0] = Table::zero().0;
-    let mut j = 0;
+    let mut next = leaf_from(leaves, 0);
     let mut n = 0;
     while n < root.0 {
         let v = Var(n + 1);
-        let t = variable_table(inputs, gates, leaves, tables, v, j);
+        let t = variable_table(inputs, gates, tables, v, next);
         let at = v.at();
         tables[at] = t.0;
-        j = passed(leaves, j, v);
+        next = passed(leaves, next, v);
         n = v.0;
     }
 }

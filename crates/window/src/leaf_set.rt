@@ -66,15 +66,15 @@ impl Leaves {
         false
     }
 
-    // The leaf at place j, if there is one, is v.
-    pub fn is_at(self, j: usize, v: Var) -> bool
+    // The leaf at this place; variable 0 where there is none.
+    pub fn leaf(self, place: usize) -> Var
         requires { ⌜ self .count ≤ leafLimit ⌝ }
-        ensures { λ r. ⌜ r ≡ ltb j (self .count) && eqb (getD (leafList self) j 0) (v .0) ⌝ }
+        ensures { λ r. ⌜ r .0 ≡ getD (leafList self) place 0 ⌝ }
     {
-        if self.count <= j {
-            return false;
+        if self.count <= place {
+            return Var(0);
         }
-        self.places[j].0 == v.0
+        self.places[place]
     }
 
     // The leaves ascend from 1 on, and each is below the root.

@@ -12,17 +12,20 @@ use lib.ListN.{getD}
 use Rattle.graph.specs.Literal.{varOf}
 use Rattle.graph.specs.Graph.{Net, netOf, free, first, second}
 use Rattle.graph.specs.Sweep.{byGate}
-use Rattle.window.specs.Local.{coverage, coveredOwn}
-use Rattle.cutter.proofs.Passed.{isAt}
+use Rattle.window.specs.Local.{coverage}
+use Rattle.cutter.specs.Sweeping.{coveredAhead}
 use Rattle.cutter.proofs.Sweeping.{fanins-below, covered-leaf, covered-input, covered-gate}
 use Rattle.cutter.proofs.cover.is_covered.Statement.{statement}
 use Rattle.cutter.proofs.cover.is_covered.Tie as tie
+
+abbrev before-test : tie.After-struct-known2 → tie.Start
+before-test t = t .before .before .before .before
 
 -- ---- what is known once the gate is read: v is no leaf, and a gate's fanins stand below it
 
 module _ (f : tie.After-fanins-of) where
   abbrev start : tie.Start
-  start = f .before .before .before .before .before .before .before
+  start = before-test (f .before .before .before .before)
 
   abbrev net : Net
   net = netOf (start .args .inputs) (now (start .args .gates))
@@ -30,8 +33,8 @@ module _ (f : tie.After-fanins-of) where
   abbrev v : ℕ
   v = start .args .v .0
 
-  other : isAt (start .args .leaves) (start .args .j) v ≡ false
-  other = sym (f .before .before .before .before .is-at .ensures) ∙ f .before .before .before .if1 .left
+  other : ¬ (v ≡ start .args .next .leaf .0)
+  other = f .before .before .before .if1 .left
 
   above : free net < v
   above = omega arith
@@ -58,29 +61,23 @@ module _ (k : tie.After-shared-slice-known4) where
   abbrev two : Bool
   two = getD covers (k .before .at3 .result) false
 
-  both : one && two ≡ Option·getD (coveredOwn (net read) (start read .args .leaves) (v read)) (byGate coverage (net read) (v read) covers)
+  both : one && two ≡ Option·getD (coveredAhead (net read) (start read .args .next) (v read)) (byGate coverage (net read) (v read) covers)
   both = sym
       (covered-gate (start read .pre .0) (other read) (above read) covers (start read .pre .1)
       (first-at (k .before .before .before .before)) (second-at (k .before)))
 
 -- ---- the needs
 
-is-at-requires : tie.Need-is-at-requires
-is-at-requires c κs = search needs
-
 returns : tie.Need-returns
-returns c =
-    let s = c .before .before .before .before in
-    sym (covered-leaf (s .pre .0) (sym (c .before .is-at .ensures) ∙ c .if1 .taken) _)
+returns c = sym (covered-leaf (before-test (c .before) .pre .0) (c .if1 .taken) _)
 
 at-requires : tie.Need-at-requires
 at-requires c κs = search needs
 
 returns-2 : tie.Need-returns-2
 returns-2 c =
-    let i = c .before .before in
-    let s = i .before .before .before .before in
-    sym (covered-input (s .pre .0) (sym (i .before .is-at .ensures) ∙ i .if1 .left) (omega arith) _)
+    let e = c .before .before in
+    sym (covered-input (before-test (e .before) .pre .0) (e .if1 .left) (omega arith) _)
 
 fanins-of-requires : tie.Need-fanins-of-requires
 fanins-of-requires c κs = search needs
@@ -104,16 +101,12 @@ shared-slice-read-second : tie.Need-shared-slice-read-second
 shared-slice-read-second c = omega (arith, second-at (c .before), below (c .before .before .before .before .before .before))
 
 returns-3 : tie.Need-returns-3
-returns-3 c = sym (ap (λ (b : Bool). b && two (c .before)) (c .if3 .taken)) ∙ both (c .before)
-
-returns-4 : tie.Need-returns-4
-returns-4 c = c .if3 .left ∙ sym (ap (λ (b : Bool). b && two (c .before)) (c .if3 .left)) ∙ both (c .before)
+returns-3 c = both c
 
 pub is-covered-spec : {M : Type 1} → statement M
 is-covered-spec =
     tie.close
     (tie.spec
-    is-at-requires
     returns
     at-requires
     returns-2
@@ -124,5 +117,4 @@ is-covered-spec =
     var-requires-2
     at-requires-3
     shared-slice-read-second
-    returns-3
-    returns-4)
+    returns-3)

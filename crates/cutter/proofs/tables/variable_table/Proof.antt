@@ -1,7 +1,6 @@
 -- `cutter::tables::variable_table` meets its contract: a leaf has its pattern, any other variable has its table by its gate.
 -- Assumes nothing.
 use mathlib.Core.Path.{_≡_, sym, ap, ap₂, _∙_}
-use mathlib.Core.Bool.{true, false}
 use Prim.Native.Nat.{ℕ, _<_}
 use native.Mathlib.Omega.{arith}
 use borrow.Author.Needs.{needs}
@@ -10,21 +9,14 @@ use Rattle.graph.specs.Literal.{varOf}
 use Rattle.graph.specs.Graph.{Net, netOf, free, first, second}
 use Rattle.graph.specs.Sweep.{litValue}
 use Rattle.window.specs.Table.{words}
-use Rattle.cutter.proofs.Passed.{isAt, leaf-below-limit}
 use Rattle.cutter.proofs.Sweeping.{fanins-below, table-leaf, table-input, table-gate}
 use Rattle.cutter.proofs.tables.variable_table.Statement.{statement}
 use Rattle.cutter.proofs.tables.variable_table.Tie as tie
 
--- ---- what is known where v is no leaf, where it is one, and once the gate is read
+abbrev before-test : tie.After-struct-known2 → tie.Start
+before-test t = t .before .before .before .before
 
-abbrev before-test : tie.After-is-at → tie.Start
-before-test i = i .before .before .before
-
-other : (e : tie.Else1) → let s = before-test (e .before) in isAt (s .args .leaves) (s .args .j) (s .args .v .0) ≡ false
-other e = sym (e .before .is-at .ensures) ∙ e .if1 .left
-
-leaf : (t : tie.Then1) → let s = before-test (t .before) in isAt (s .args .leaves) (s .args .j) (s .args .v .0) ≡ true
-leaf t = sym (t .before .is-at .ensures) ∙ t .if1 .taken
+-- ---- what is known once the gate is read: v is no leaf, and a gate's fanins stand below it
 
 module _ (f : tie.After-fanins-of) where
   abbrev start : tie.Start
@@ -36,6 +28,9 @@ module _ (f : tie.After-fanins-of) where
   abbrev v : ℕ
   v = start .args .v .0
 
+  other : ¬ (v ≡ start .args .next .leaf .0)
+  other = omega arith
+
   above : free net < v
   above = omega arith
 
@@ -44,14 +39,11 @@ module _ (f : tie.After-fanins-of) where
 
 -- ---- the needs
 
-is-at-requires : tie.Need-is-at-requires
-is-at-requires c κs = search needs
-
 of-leaf-requires : tie.Need-of-leaf-requires
-of-leaf-requires c κs = leaf-below-limit (before-test (c .before) .pre .0 .passed) (leaf c)
+of-leaf-requires c κs = before-test (c .before) .pre .0 .place-ok (omega arith)
 
 returns : tie.Need-returns
-returns c = c .of-leaf .ensures ∙ sym (table-leaf (before-test (c .before .before) .pre .0) (leaf (c .before)) _)
+returns c = c .of-leaf .ensures ∙ sym (table-leaf (before-test (c .before .before) .pre .0) (omega arith) _)
 
 at-requires : tie.Need-at-requires
 at-requires c κs = search needs
@@ -62,7 +54,7 @@ zero-requires c κs = search needs
 returns-2 : tie.Need-returns-2
 returns-2 c =
     let e = c .before .before .before in
-    c .zero .ensures ∙ sym (table-input (before-test (e .before) .pre .0) (other e) (omega arith) _)
+    c .zero .ensures ∙ sym (table-input (before-test (e .before) .pre .0) (omega arith) (omega arith) _)
 
 fanins-of-requires : tie.Need-fanins-of-requires
 fanins-of-requires c κs = search needs
@@ -86,13 +78,12 @@ returns-3 c =
     ∙ ap₂ (words .conj)
     (one .literal-table .ensures ∙ ap literal (f .fanins-of .ensures .0))
     (two .literal-table2 .ensures ∙ ap literal (f .fanins-of .ensures .1))
-    ∙ sym (table-gate (start f .pre .0) (other (f .before .before .before)) (above f) (now (start f .args .tables)))
+    ∙ sym (table-gate (start f .pre .0) (other f) (above f) (now (start f .args .tables)))
 
 pub variable-table-spec : {M : Type 1} → statement M
 variable-table-spec =
     tie.close
     (tie.spec
-    is-at-requires
     of-leaf-requires
     returns
     at-requires
