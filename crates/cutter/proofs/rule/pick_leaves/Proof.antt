@@ -12,7 +12,18 @@ use Rattle.window.specs.LeafRule.{withFanins}
 use Rattle.window.proofs.Weight.{weight}
 use Rattle.window.proofs.Expansions.{fanins-length}
 use Rattle.window.proofs.Growing.{list-of, tidy-of, fits-leaves}
-use Rattle.cutter.proofs.Picking.{Decided, best-decides, decided-on, decided-off, Going, going-start, going-choosing, going-more, going-less, going-end}
+use Rattle.cutter.proofs.Picking.{
+  Decided,
+  best-decides,
+  decided-on,
+  decided-off,
+  Going,
+  going-start,
+  going-choosing,
+  going-more,
+  going-less,
+  going-end,
+}
 use Rattle.cutter.proofs.rule.pick_leaves.Statement.{statement}
 use Rattle.cutter.proofs.rule.pick_leaves.Tie as tie
 
