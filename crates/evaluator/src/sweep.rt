@@ -33,7 +33,7 @@ fn gate_value(inputs: usize, gates: &[u32], known: &[bool], v: Var) -> bool
     let gate = fanins_of(inputs, gates, v);
     let first = literal_value(known, gate.first);
     let second = literal_value(known, gate.second);
-    first && second
+    first & second
 }
 
 // The values of variable 0 and of the inputs stand at the front of `known`.

@@ -59,12 +59,9 @@ literal-value-requires-2 : tie.Need-literal-value-requires-2
 literal-value-requires-2 c κs = below (c .before) .1
 
 returns : tie.Need-returns
-returns c = rw (c .if1 .taken) at (both (c .before))
-
-returns-2 : tie.Need-returns-2
-returns-2 c = c .if1 .left ∙ rw (c .if1 .left) at (both (c .before))
+returns c = both c
 
 pub gate-value-spec : {M : Type 1} → statement M
 gate-value-spec =
     tie.close
-    (tie.spec fanins-of-requires literal-value-requires literal-value-requires-2 returns returns-2)
+    (tie.spec fanins-of-requires literal-value-requires literal-value-requires-2 returns)
