@@ -23,6 +23,7 @@ use Rattle.window.specs.declared.leaf_set.Leaves.{Leaves}
 use Rattle.window.specs.Leaves.{leafList, WellSet}
 use Rattle.window.specs.Local.{coverage, coveredOwn, coveredUpTo, covered, coveredBelow, leafOwn}
 use Rattle.window.specs.Table.{words, leafPattern, wordsUpTo, table}
+use Rattle.window.proofs.Local.{literal-covered}
 use Rattle.window.proofs.Table.{words-are-tables}
 use Rattle.cutter.specs.declared.next_leaf.NextLeaf.{NextLeaf}
 use Rattle.cutter.specs.Sweeping.{Ahead, Sweeping, coveredAhead, tableAhead, coveredIn}
@@ -37,12 +38,7 @@ getD-inside (x ∷ xs) (suc k) d e h = getD-inside xs k d e (le-of-suc-le-suc h)
 -- ---- what a variable has, where the lent list has what those below it have
 
 covered-literal : (covers : List Bool) (l : ℕ) → varOf l < length covers → litValue coverage covers l ≡ getD covers (varOf l) false
-unfolding litValue turned coverage
-covered-literal covers l h = go (isOdd l) ∙ getD-inside covers (varOf l) true false h
-  where
-    go : (b : Bool) → turned coverage b (getD covers (varOf l) true) ≡ getD covers (varOf l) true
-    go true = refl
-    go false = refl
+covered-literal covers l h = literal-covered covers l ∙ getD-inside covers (varOf l) true false h
 
 module _ (tables : List ℕ) (l : ℕ) {t : ℕ} (e : t ≡ getD tables (varOf l) 0) where
   pub table-turned : isOdd l ≡ true → words .neg t ≡ litValue words tables l
@@ -155,7 +151,7 @@ module _ {A : Type 0} {K : Algebra A} {own : ℕ → Option A} {net : Net} {w : 
       pub sweep-next : Sweeping net next (n + 1)
       sweep-next =
           let (a, above) = sweep-ahead in
-          record { net-ok = s .net-ok; above-zero = above; within = omega arith; place-ok = place-below-limit a above }
+          record { net-ok = s .net-ok; within = omega arith; place-ok = place-below-limit a above }
 
       -- what the next variable has is set down at its place; o is what it has itself, by the next leaf
       pub sweep-more : (x : A) {o : Option A} {at : ℕ} {after : NextLeaf} → x ≡ Option·getD o (byGate K net (n + 1) list)

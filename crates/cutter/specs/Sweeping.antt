@@ -30,7 +30,6 @@ pub record Ahead (w : Leaves) (v : ℕ) (next : NextLeaf) : Type 0 where
 -- v is a variable of the net, and where it is the next leaf, that has one of the six places
 pub record Sweeping (net : Net) (next : NextLeaf) (v : ℕ) : Type 0 where
   pub net-ok : WellFormedNet net
-  pub above-zero : 0 < v
   pub within : v ≤ last net
   pub place-ok : v ≡ next .leaf .0 → next .place < leafLimit
 

@@ -10,8 +10,8 @@ use native.Mathlib.Nat.{le-refl}
 use native.Mathlib.Omega.{arith}
 use borrow.Author.Tests.{le-leb, lt-leb}
 use lib.Dec.{leb}
-use lib.ListN.{length, getD, take, length-append, List·getD-append, List·getD-map}
-use lib.Seq.{getD-at, take-at}
+use lib.ListN.{length, getD, length-append, List·getD-append, List·getD-map}
+use lib.Seq.{getD-at}
 use Rattle.graph.specs.Literal.{varOf, isOdd}
 use Rattle.graph.specs.Graph.{Net, free, first, second}
 use Rattle.graph.specs.Sweep.{Algebra, turned, litValue, byGate, values, valueAt}
@@ -35,10 +35,6 @@ module _ {A : Type 0} (K : Algebra A) (own : ℕ → Option A) (net : Net) where
   pub values-more : (n v : ℕ) (d : A) → v ≤ n → getD (values K own net (suc n)) v d ≡ getD (values K own net n) v d
   unfolding values
   values-more n v d h = List·getD-append (values K own net n) _ d v (omega (arith, values-length n))
-
-  pub values-take : (n : ℕ) → take (suc n) (values K own net (suc n)) ≡ values K own net n
-  unfolding values
-  values-take n = take-at (values K own net n) _ (suc n) (values-length n)
 
   -- a variable has one value, however far the sweep goes
   pub values-at : (n v : ℕ) → v ≤ n → getD (values K own net n) v (K .no) ≡ valueAt K own net v

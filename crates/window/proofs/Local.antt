@@ -25,6 +25,15 @@ use Rattle.window.proofs.LeafPlaces.{leaf-found, leaf-missed}
 
 -- ---- one step of coverage
 
+-- of a literal only its variable counts
+pub literal-covered : (covers : List Bool) (l : ℕ) → litValue coverage covers l ≡ getD covers (varOf l) true
+unfolding litValue turned coverage
+literal-covered covers l = go (isOdd l)
+  where
+    go : (b : Bool) → turned coverage b (getD covers (varOf l) true) ≡ getD covers (varOf l) true
+    go true = refl
+    go false = refl
+
 module _ (net : Net) (w : Leaves) where
   abbrev covers : ℕ → List Bool
   covers n = values coverage (coveredOwn net w) net n
@@ -41,20 +50,12 @@ module _ (net : Net) (w : Leaves) where
   unfolding covered coveredOwn
   uncovered-input n e h = own-value coverage (coveredOwn net w) net n false (rw (e, coveredOwn, le-leb (suc n) (free net) h))
 
-  lit-covered : (n l : ℕ) → litValue coverage (covers n) l ≡ getD (covers n) (varOf l) true
-  unfolding litValue turned coverage
-  lit-covered n l = go (isOdd l)
-    where
-      go : (b : Bool) → turned coverage b (getD (covers n) (varOf l) true) ≡ getD (covers n) (varOf l) true
-      go true = refl
-      go false = refl
-
   covered-gate : (n : ℕ) → leafPlace w (suc n) ≡ none → free net < suc n
       → covered net w (suc n) ≡ getD (covers n) (varOf (first net (suc n))) true && getD (covers n) (varOf (second net (suc n))) true
   unfolding covered coverage coveredOwn
   covered-gate n e h =
       gate-value coverage (coveredOwn net w) net n (rw (e, coveredOwn, lt-leb (suc n) (free net) h)) h
-      ∙ ap₂ _&&_ (lit-covered n (first net (suc n))) (lit-covered n (second net (suc n)))
+      ∙ ap₂ _&&_ (literal-covered (covers n) (first net (suc n))) (literal-covered (covers n) (second net (suc n)))
 
   -- a leaf is covered, so to be covered is to be shown for what is no leaf
   covered-or-missed : (n : ℕ) → (leafPlace w (suc n) ≡ none → covered net w (suc n) ≡ true) → covered net w (suc n) ≡ true

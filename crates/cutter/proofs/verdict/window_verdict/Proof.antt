@@ -1,4 +1,4 @@
--- `cutter::window_verdict` meets its contract: the root's refusals come first, then its two tests in their order.
+-- `cutter::verdict::window_verdict` meets its contract: the root's refusals come first, then its two tests in their order.
 -- Assumes nothing.
 use mathlib.Core.Path.{_≡_, sym, ap, _∙_}
 use mathlib.Core.Bool.{true}
@@ -13,8 +13,8 @@ use Rattle.window.specs.Leaves.{wellSet}
 use Rattle.window.specs.Calls.{rootRefusals}
 use Rattle.window.proofs.Leaves.{well-set-iff}
 use Rattle.cutter.proofs.Verdicts.{root-known, by-root, bad-leaves, not-a-cut, window-fine}
-use Rattle.cutter.proofs.window_verdict.Statement.{statement}
-use Rattle.cutter.proofs.window_verdict.Tie as tie
+use Rattle.cutter.proofs.verdict.window_verdict.Statement.{statement}
+use Rattle.cutter.proofs.verdict.window_verdict.Tie as tie
 
 module _ (v : tie.After-root-verdict) where
   abbrev start : tie.Start

@@ -1,4 +1,4 @@
--- `cutter::root_verdict` meets its contract: its two tests are the refusals in their order.
+-- `cutter::verdict::root_verdict` meets its contract: its two tests are the refusals in their order.
 -- Assumes nothing.
 use mathlib.Core.Path.{_≡_, sym, _∙_}
 use mathlib.Core.Bool.{true}
@@ -9,8 +9,8 @@ use Rattle.graph.specs.Graph.{Graph, graphOf, wellFormed}
 use Rattle.graph.specs.Refuse.{verdictIs}
 use Rattle.graph.proofs.Graph.{well-formed}
 use Rattle.cutter.proofs.Verdicts.{bad-graph, bad-root, root-fine}
-use Rattle.cutter.proofs.root_verdict.Statement.{statement}
-use Rattle.cutter.proofs.root_verdict.Tie as tie
+use Rattle.cutter.proofs.verdict.root_verdict.Statement.{statement}
+use Rattle.cutter.proofs.verdict.root_verdict.Tie as tie
 
 abbrev graph : tie.After-well-formed → Graph
 graph p = let s = p .before .before .before in graphOf (s .args .inputs) (now (s .args .gates)) (now (s .args .outputs))
