@@ -1,7 +1,7 @@
 -- What the code's tests of a graph come to, one at a time.
 -- Assumes nothing.
-use mathlib.Core.Path.{_≡_, refl}
-use mathlib.Core.Bool.{Bool, true, false, _&&_}
+use mathlib.Core.Path.{_≡_}
+use mathlib.Core.Bool.{Bool, true, false}
 use mathlib.Core.List.{List}
 use Prim.Native.Nat.{ℕ, suc, _+_, _*_, _/_, _%_, _<_, _≤_}
 use native.Mathlib.Numerals.{add-one}
@@ -11,7 +11,7 @@ use lib.Dec.{leb, ltb}
 use lib.ListN.{length, getD}
 use Rattle.graph.specs.Lists.{every, allBelow, all}
 use Rattle.graph.specs.Graph.{netOf, graphOf, gateOk, sinkOk, rules, wellFormed, mostInputs, mostOutputs, mostGates}
-use Rattle.graph.proofs.Lists.{fails-with, every-at, allBelow-at}
+use Rattle.graph.proofs.Lists.{and-true, fails-with, every-at, allBelow-at}
 use Rattle.graph.proofs.Graph.{first-at, second-at}
 
 -- ---- a test at each number in turn
@@ -61,10 +61,6 @@ module _ (i : ℕ) (gs os : List ℕ) where
         le-leb (length os) mostOutputs fo,
         le-leb (length gs / 2) mostGates fg,
       ) (and-true gatesPass)
-    where
-      and-true : (b : Bool) → b && true ≡ b
-      and-true true = refl
-      and-true false = refl
 
   -- one rule that is broken decides
   fails : (k : ℕ) → getD (rules (graphOf i gs os)) k true ≡ false → wellFormed (graphOf i gs os) ≡ false

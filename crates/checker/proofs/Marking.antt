@@ -3,20 +3,20 @@
 use mathlib.Core.Path.{_≡_, refl, sym, ap, ap₂, _∙_}
 use mathlib.Core.Bool.{Bool, true, false, cond}
 use mathlib.Core.List.{List}
-use Prim.Native.Nat.{ℕ, zero, suc, _+_, _-_, _≤_, _<_, zero-le}
-use native.Mathlib.Nat.{le-refl}
+use Prim.Native.Nat.{ℕ, zero, suc, _+_, _-_, _≤_, _<_}
 use native.Mathlib.Numerals.{add-one}
 use native.Mathlib.Omega.{arith}
 use borrow.Author.Tests.{le-leb, lt-leb, lt-ltb, le-ltb}
 use mir.Val.{boolByte}
 use lib.ListN.{length, getD, set, drop, replicate, drop-of-length-le, length-replicate}
 use lib.Seq.{drop-cons}
-use Rattle.graph.specs.Literal.{varOf}
+use Rattle.graph.specs.Literal.{varOf, LiteralsBelow}
 use Rattle.graph.specs.Graph.{Net, Graph, free, size, last, sinks, first, second, mostInputs, mostGates, IsGate, Lawful}
-use Rattle.graph.specs.Use.{markEach, markFanins, markDown, marks, inUse, countMarks, usedGates}
-use Rattle.graph.proofs.Lists.{same-tests}
+use Rattle.graph.specs.Use.{markEach, markFanins, markDown, marksOver, marks, inUse, countMarks, usedGates}
+use Rattle.graph.proofs.Graph.{sinks-below}
+use Rattle.graph.proofs.Lists.{same-tests, cast-is}
 use Rattle.graph.proofs.Use.{down-keeps, down-low, marks-longer}
-use Rattle.checker.specs.Marks.{marksIn, HaveMarks, markAfter}
+use Rattle.checker.specs.Marks.{marksIn, markAfter}
 
 -- ---- how marks lie in memory: beside these two laws only `set_mark` and `has_mark` know
 
@@ -27,6 +27,9 @@ marks-length places = refl
 pub fresh-marks : (n : ℕ) → marksIn (replicate n false) ≡ replicate n false
 unfolding marksIn
 fresh-marks n = refl
+
+pub fresh-long : (n : ℕ) → length (marksIn (replicate n false)) ≡ n
+fresh-long n = marks-length (replicate n false) ∙ length-replicate n false
 
 -- the places of the code's array: one for each variable that the limits allow
 abbrev pub mostVariables : ℕ
@@ -79,26 +82,12 @@ module _ (net : Net) (k : ℕ) where
 -- ---- counting
 
 module _ (net : Net) (ms : List Bool) where
-  -- no more marks than gates
-  pub count-few : (k : ℕ) → countMarks net ms k ≤ k
-  unfolding countMarks
-  count-few zero = le-refl 0
-  count-few (suc k) = omega (arith, count-few k, one (getD ms (suc (free net + k)) false))
-    where
-      one : (b : Bool) → cond b 1 0 ≤ 1
-      one true = le-refl 1
-      one false = omega arith
-
   -- the mark of one gate more, as a cast gives it
   pub count-more : (k : ℕ) → countMarks net ms k + boolByte (getD ms (free net + k + 1) false) ≡ countMarks net ms (k + 1)
   unfolding countMarks
   count-more k =
       let e : free net + k + 1 ≡ suc (free net + k) = omega arith in
-      rw (add-one k, e) (ap (λ (n : ℕ). countMarks net ms k + n) (bit (getD ms (suc (free net + k)) false)))
-    where
-      bit : (b : Bool) → boolByte b ≡ cond b 1 0
-      bit true = refl
-      bit false = refl
+      rw (add-one k, e) (ap (λ (n : ℕ). countMarks net ms k + n) (cast-is (getD ms (suc (free net + k)) false)))
 
   -- lists that hold the same marks have the same number of them
   count-same : (ms′ : List Bool) → ((v : ℕ) → getD ms v false ≡ getD ms′ v false) → (k : ℕ) → countMarks net ms k ≡ countMarks net ms′ k
@@ -121,10 +110,8 @@ module _ (g : Graph) (v : ℕ) where
 -- ---- the whole pass, in a list with places for all variables or more
 
 module _ (g : Graph) (ok : Lawful g) where
-  pub fresh-have-marks : (n : ℕ) → last (g .net) < n → HaveMarks (sinks g) (marksIn (replicate n false))
-  fresh-have-marks n room = record {
-    within = λ j h. let w = ok .sinks-within j h in omega (arith, marks-length (replicate n false), length-replicate n false);
-  }
+  pub fresh-have-marks : (n : ℕ) → last (g .net) < n → LiteralsBelow (sinks g) (length (marksIn (replicate n false)))
+  fresh-have-marks n room = sinks-below g ok _ (omega (arith, fresh-long n))
 
   -- the gates up to the k-th leave the marks above them as they are, since their fanins are lower
   down-leaves : (k : ℕ) (ms : List Bool) (v : ℕ) → k ≤ size (g .net) → free (g .net) + k ≤ v
@@ -135,6 +122,7 @@ module _ (g : Graph) (ok : Lawful g) where
     -- once the gates after the k-th are done, those up to it lead to the marks of the definition
     rest-leads : (k : ℕ) → k ≤ size (g .net) → (v : ℕ)
         → getD (markDown (g .net) k (markAfter (g .net) k (size (g .net) - k) outs)) v false ≡ getD (marks g) v false
+    unfolding marksOver
     rest-leads k h v =
         let all : k + (size (g .net) - k) ≡ size (g .net) = omega arith in
         rw (← down-after (g .net) k (size (g .net) - k) outs, all, o, fresh-marks n) (marks-longer g ok n room v)
@@ -148,7 +136,16 @@ module _ (g : Graph) (ok : Lawful g) where
         rw (d, e, lt-ltb _ _ (i .above), le-leb _ _ (i .within))
         (sym (down-leaves (v - free (g .net)) _ v (omega arith) (omega arith)) ∙ rest-leads (v - free (g .net)) (omega arith) v)
 
-    pub marks-counted : {done : List Bool} → done ≡ markAfter (g .net) 0 (size (g .net) - 0) outs
-        → countMarks (g .net) done (size (g .net)) ≡ usedGates g
-    unfolding usedGates markDown
-    marks-counted d = rw d (count-same (g .net) _ (marks g) (rest-leads 0 zero-le) (size (g .net)))
+  -- the marks of the definition are counted in any list that has places for all variables
+  pub marks-counted : (n : ℕ) → last (g .net) < n → {ms : List Bool} → ms ≡ marksOver n g
+      → countMarks (g .net) ms (size (g .net)) ≡ usedGates g
+  unfolding usedGates
+  marks-counted n room e = rw e (count-same (g .net) _ (marks g) (marks-longer g ok n room) (size (g .net)))
+
+-- the whole pass over marks that are all unset
+pub marks-made : (g : Graph) (n : ℕ) {before outs done : List Bool} → before ≡ replicate n false → outs ≡ markEach (sinks g) before
+    → done ≡ markAfter (g .net) 0 (size (g .net) - 0) outs → done ≡ marksOver n g
+unfolding marksOver markDown
+marks-made g n b o d =
+    let all : 0 + (size (g .net) - 0) ≡ size (g .net) = omega arith in
+    rw (d, ← down-after (g .net) 0 (size (g .net) - 0) _, all, o, b)

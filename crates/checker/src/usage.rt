@@ -1,10 +1,12 @@
 // The gates in use, and their number R. Each function asks for what its callers have proved.
 ghost use mathlib.Core.Path.{_≡_};
+ghost use mathlib.Core.Bool.{false};
 ghost use Prim.Native.Nat.{_-_, _<_, _≤_};
-ghost use lib.ListN.{length};
+ghost use lib.ListN.{length, replicate};
+ghost use Rattle.graph.specs.Literal.{LiteralsBelow};
 ghost use Rattle.graph.specs.Graph.{netOf, graphOf, size, last, WellFormed, WellFormedNet, IsGate};
-ghost use Rattle.graph.specs.Use.{markEach, markFanins, countMarks, inUse, usedGates};
-ghost use Rattle.checker.specs.Marks.{marksIn, HaveMarks, markAfter};
+ghost use Rattle.graph.specs.Use.{markEach, markFanins, marksOver, countMarks, inUse, usedGates};
+ghost use Rattle.checker.specs.Marks.{marksIn, markAfter};
 use crate::marks::has_mark;
 use crate::marks::set_mark;
 use graph::Lit;
@@ -13,8 +15,8 @@ use graph::Var;
 use graph::fanins_of;
 
 // The variables of these literals are marked.
-pub fn mark_each(literals: &[u32], marks: &mut [bool])
-    requires { ⌜ HaveMarks (now literals) (marksIn (now marks)) ⌝ }
+fn mark_each(literals: &[u32], marks: &mut [bool])
+    requires { ⌜ LiteralsBelow (now literals) (length (marksIn (now marks))) ⌝ }
     ensures { λ _. ⌜ marksIn (now (marks .exit)) ≡ markEach (now (literals .entry)) (marksIn (now (marks .entry))) ⌝ }
 {
     let mut k = 0;
@@ -25,7 +27,7 @@ pub fn mark_each(literals: &[u32], marks: &mut [bool])
 }
 
 // The fanins of v's gate are marked if v is.
-pub fn mark_fanins(inputs: usize, gates: &[u32], v: Var, marks: &mut [bool])
+fn mark_fanins(inputs: usize, gates: &[u32], v: Var, marks: &mut [bool])
     requires { ⌜ WellFormedNet (netOf inputs (now gates)) × IsGate (netOf inputs (now gates)) (v .0)
         × (v .0 < length (marksIn (now marks))) ⌝ }
     ensures { λ _. ⌜ marksIn (now (marks .exit)) ≡ markFanins (netOf inputs (now (gates .entry))) (v .0) (marksIn (now (marks .entry))) ⌝ }
@@ -38,7 +40,7 @@ pub fn mark_fanins(inputs: usize, gates: &[u32], v: Var, marks: &mut [bool])
 }
 
 // So from the highest gate down to the one after the k-th.
-pub fn mark_after(inputs: usize, gates: &[u32], k: usize, marks: &mut [bool])
+fn mark_after(inputs: usize, gates: &[u32], k: usize, marks: &mut [bool])
     requires { ⌜ WellFormedNet (netOf inputs (now gates)) × (k ≤ size (netOf inputs (now gates)))
         × (last (netOf inputs (now gates)) < length (marksIn (now marks))) ⌝ }
     ensures { λ _. ⌜ marksIn (now (marks .exit))
@@ -50,6 +52,18 @@ pub fn mark_after(inputs: usize, gates: &[u32], k: usize, marks: &mut [bool])
         mark_fanins(inputs, gates, v, marks);
         next -= 1;
     }
+}
+
+// What outputs reach is marked, in marks that are all unset.
+pub fn mark_used(inputs: usize, gates: &[u32], outputs: &[u32], marks: &mut [bool])
+    requires { ⌜ WellFormed (graphOf inputs (now gates) (now outputs))
+        × (last (netOf inputs (now gates)) < length (marksIn (now marks))) ⌝ }
+    requires { ⌜ marksIn (now marks) ≡ replicate (length (marksIn (now marks))) false ⌝ }
+    ensures { λ _. ⌜ marksIn (now (marks .exit))
+        ≡ marksOver (length (marksIn (now (marks .entry)))) (graphOf inputs (now (gates .entry)) (now (outputs .entry))) ⌝ }
+{
+    mark_each(outputs, marks);
+    mark_after(inputs, gates, 0, marks);
 }
 
 // The gate is in use, where v may be any number: marks above it decide.
@@ -92,7 +106,6 @@ pub fn used_gates(inputs: usize, gates: &[u32], outputs: &[u32]) -> usize
     ensures { λ r. ⌜ r ≡ usedGates (graphOf inputs (now (gates .entry)) (now (outputs .entry))) ⌝ }
 {
     let mut marks = [false; MOST_VARIABLES];
-    mark_each(outputs, &mut marks);
-    mark_after(inputs, gates, 0, &mut marks);
+    mark_used(inputs, gates, outputs, &mut marks);
     count_marks(inputs, gates, &marks)
 }

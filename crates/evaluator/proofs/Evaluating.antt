@@ -4,7 +4,7 @@ use mathlib.Core.Path.{_≡_, refl, sym}
 use mathlib.Core.Bool.{Bool, cond}
 use mathlib.Core.List.{List, map}
 use mathlib.Core.Option.{none}
-use Prim.Native.Nat.{ℕ, _<_, _≤_}
+use Prim.Native.Nat.{ℕ, _≤_}
 use native.Mathlib.Omega.{arith}
 use borrow.Author.Tests.{ltb-false, not-false}
 use lib.ListN.{length, getD}
@@ -31,14 +31,10 @@ use Rattle.graph.proofs.Graph.{well-formed}
 use Rattle.graph.proofs.Swept.{swept-literal}
 use Rattle.graph.proofs.Evaluate.{assignment-iff}
 use Rattle.graph.proofs.Refuse.{none-silent}
-use Rattle.evaluator.specs.Values.{LiteralsKnown}
 
 -- ---- the outputs of a graph that is swept
 
 module _ (g : Graph) (ok : Lawful g) where
-  pub outputs-known : (known : List Bool) → last (g .net) < length known → LiteralsKnown (sinks g) known
-  outputs-known known room = record { within = λ j h. omega (arith, ok .sinks-within j h) }
-
   swept-outputs : (a : ℕ → Bool) (lent : List Bool)
       → map (litValue bools (written (valuesUnder (g .net) a (last (g .net))) lent)) (sinks g) ≡ outputsUnder g a
   unfolding outputsUnder valuesUnder

@@ -8,12 +8,12 @@ ghost use Prim.Native.Nat.{_<_, _≤_};
 ghost use lib.Dec.{leb};
 ghost use lib.ListN.{length};
 ghost use Rattle.graph.specs.Lists.{all};
+ghost use Rattle.graph.specs.Literal.{LiteralsBelow};
 ghost use Rattle.graph.specs.Lent.{written, _leaving_};
 ghost use Rattle.graph.specs.Graph.{netOf, graphOf};
 ghost use Rattle.graph.specs.Refuse.{firstRefusal, verdictIs};
 ghost use Rattle.graph.specs.Sweep.{bools, litValue};
 ghost use Rattle.graph.specs.Evaluate.{isAssignment, evaluateRefusals, evaluateEffect};
-ghost use Rattle.evaluator.specs.Values.{LiteralsKnown};
 use checker::well_formed;
 use graph::Evaluated;
 use graph::Lit;
@@ -73,7 +73,7 @@ fn evaluate_verdict(
 
 // The values of these literals, 0 or 1, stand at the front of `values`.
 fn put_values(literals: &[u32], known: &[bool], values: &mut [u32])
-    requires { ⌜ LiteralsKnown (now literals) (now known) × (length (now literals) ≤ length (now values)) ⌝ }
+    requires { ⌜ LiteralsBelow (now literals) (length (now known)) × (length (now literals) ≤ length (now values)) ⌝ }
     ensures { λ _. ⌜ now (values .exit)
         ≡ written (map (λ b. cond b 1 0) (map (litValue bools (now (known .entry))) (now (literals .entry)))) (now (values .entry)) ⌝ }
 {

@@ -9,11 +9,13 @@ use borrow.Author.Tests.{leb-true, ltb-true, eqb-true, le-leb, lt-ltb, eq-eqb}
 use lib.Dec.{leb, ltb}
 use lib.ListN.{getD}
 use Rattle.graph.specs.Lists.{every, allBelow}
+use Rattle.graph.specs.Literal.{LiteralsBelow}
 use Rattle.graph.specs.Graph.{
   Net,
   Graph,
   free,
   size,
+  last,
   sinks,
   first,
   second,
@@ -23,6 +25,7 @@ use Rattle.graph.specs.Graph.{
   rules,
   wellFormed,
   IsGate,
+  Lawful,
   WellFormed,
   WellFormedNet,
 }
@@ -130,3 +133,7 @@ net-well-formed g ok = record {
   outputs-few = omega arith;
   gates-few = ok .gates-few;
 }
+
+-- in a list with a place for each variable the outputs' variables have theirs
+pub sinks-below : (g : Graph) → Lawful g → (n : ℕ) → last (g .net) < n → LiteralsBelow (sinks g) n
+sinks-below g ok n room = record { within = λ j h. let w = ok .sinks-within j h in omega arith }

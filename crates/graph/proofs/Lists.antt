@@ -8,6 +8,7 @@ use Prim.Native.Nat.{ℕ, zero, suc, _+_, _-_, _≤_, _<_}
 use native.Mathlib.Nat.{le-of-suc-le-suc, not-suc-le-zero, le-refl, zero-lt-suc}
 use native.Mathlib.Omega.{arith}
 use borrow.Author.Tests.{leb-true, leb-false, eqb-true, eqb-false}
+use mir.Val.{boolByte}
 use lib.Dec.{leb, eqb}
 use lib.ListN.{length, getD, take, replicate}
 use lib.Seq.{take-append-seam, getD-append-add}
@@ -58,6 +59,10 @@ and-right false b e = absurd (false≢true e)
 
 pub and-both : (a b : Bool) → a ≡ true → b ≡ true → a && b ≡ true
 and-both a b e h = rw (e, h)
+
+pub and-true : (b : Bool) → b && true ≡ b
+and-true true = refl
+and-true false = refl
 
 -- where c holds if b does, a c that fails decides b
 pub fails-with : (b c : Bool) → (b ≡ true → c ≡ true) → c ≡ false → b ≡ false
@@ -139,6 +144,12 @@ module _ {A : Type 0} (f : A → Bool) where
       go : (b : Bool) → length {A = A} (elim b [ true ↦ x ∷ [] | false ↦ [] ]) ≡ cond b 1 0
       go true = refl
       go false = refl
+
+-- ---- a test as a number, as a cast gives it
+
+pub cast-is : (b : Bool) → boolByte b ≡ cond b 1 0
+cast-is true = refl
+cast-is false = refl
 
 -- ---- numbers filled up with 0
 

@@ -22,6 +22,7 @@ use Rattle.graph.specs.Use.{
   markEach,
   markFanins,
   markDown,
+  marksOver,
   marks,
   inUse,
   countMarks,
@@ -77,11 +78,8 @@ module _ (g : Graph) where
   down-sound zero ms h s = s
   down-sound (suc k) ms h s = down-sound k (markFanins (g .net) (var k) ms) (omega arith) (fanins-sound (var k) ms (var-gate k h) s)
 
-  -- the marks that a list of any length holds afterwards
-  abbrev pub marksOf : ℕ → List Bool
-  marksOf n = markDown (g .net) (size (g .net)) (markEach (sinks g) (replicate n false))
-
-  marked-sound : (n : ℕ) → Sound (marksOf n)
+  marked-sound : (n : ℕ) → Sound (marksOver n g)
+  unfolding marksOver
   marked-sound n = down-sound (size (g .net)) _ (le-refl _) (outputs-sound n)
 
   pub marked-reached : (v : ℕ) → Marked (marks g) v → Reached g v
@@ -139,18 +137,20 @@ module _ (g : Graph) where
 
     -- in a list with places for all variables
     module _ (n : ℕ) (room : last (g .net) < n) where
-      fanins-have-marks : (v : ℕ) → IsGate (g .net) v → Marked (marksOf n) v
-          → Marked (marksOf n) (varOf (first (g .net) v)) × Marked (marksOf n) (varOf (second (g .net) v))
+      fanins-have-marks : (v : ℕ) → IsGate (g .net) v → Marked (marksOver n g) v
+          → Marked (marksOver n g) (varOf (first (g .net) v)) × Marked (marksOver n g) (varOf (second (g .net) v))
+      unfolding marksOver
       fanins-have-marks v i m =
           down-closed (size (g .net)) _ (le-refl _) (omega (arith, each-length (sinks g) (replicate n false), length-replicate n false)) v
           (i .above) (i .within) m
 
-      output-has-mark : (j : ℕ) → j < length (sinks g) → Marked (marksOf n) (varOf (getD (sinks g) j 0))
+      output-has-mark : (j : ℕ) → j < length (sinks g) → Marked (marksOver n g) (varOf (getD (sinks g) j 0))
+      unfolding marksOver
       output-has-mark j h =
           let b = ok .sinks-within j h in
           down-keeps (size (g .net)) _ _ (each-marks (sinks g) _ j h (omega (arith, length-replicate n false)))
 
-      reached-has-mark : (v : ℕ) → Reached g v → Marked (marksOf n) v
+      reached-has-mark : (v : ℕ) → Reached g v → Marked (marksOver n g) v
       reached-has-mark v (as-output j h) = output-has-mark j h
       reached-has-mark v (as-first {v = u} i r) = fanins-have-marks u i (reached-has-mark u r) .0
       reached-has-mark v (as-second {v = u} i r) = fanins-have-marks u i (reached-has-mark u r) .1
@@ -165,7 +165,7 @@ module _ (g : Graph) where
     reached-marked = reached-has-mark (suc (last (g .net))) (le-refl _)
 
     -- a longer list holds the same marks
-    pub marks-longer : (n : ℕ) → last (g .net) < n → (v : ℕ) → getD (marksOf n) v false ≡ getD (marks g) v false
+    pub marks-longer : (n : ℕ) → last (g .net) < n → (v : ℕ) → getD (marksOver n g) v false ≡ getD (marks g) v false
     unfolding Sound
     marks-longer n room v =
         same-tests _ _ (λ m. reached-marked v (marked-sound n v m)) (λ m. reached-has-mark n room v (marked-reached v m))

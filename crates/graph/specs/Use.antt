@@ -35,10 +35,15 @@ unfolding markFanins
 markDown net zero ms = ms
 markDown net (suc k) ms = markDown net k (markFanins net (suc (free net + k)) ms)
 
--- outputs are marked first, then fanins from the highest gate down: fanins are lower, so one pass is enough
-unfoldable pub marks : Graph → List Bool
+-- outputs are marked first, then fanins from the highest gate down, in a list of n places: fanins are lower, so one pass is enough
+unfoldable pub marksOver : ℕ → Graph → List Bool
 unfolding markEach markDown
-marks g = markDown (g .net) (size (g .net)) (markEach (sinks g) (replicate (suc (last (g .net))) false))
+marksOver n g = markDown (g .net) (size (g .net)) (markEach (sinks g) (replicate n false))
+
+-- so with a place for each variable
+unfoldable pub marks : Graph → List Bool
+unfolding marksOver
+marks g = marksOver (suc (last (g .net))) g
 
 -- variable v is a gate, and in use
 unfoldable pub inUse : Graph → ℕ → Bool

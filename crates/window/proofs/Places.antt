@@ -10,6 +10,7 @@ use lib.Dec.{leb, ltb, eqb}
 use lib.ListN.{length, getD, drop, drop-of-length-le}
 use lib.Seq.{drop-cons}
 use Rattle.graph.specs.Lists.{every, all}
+use Rattle.graph.proofs.Lists.{and-true}
 use Rattle.window.specs.declared.leaf_set.Leaves.{Leaves}
 use Rattle.window.specs.Leaves.{leafLimit, numbers, leafList, ascendsFrom, leafRules, wellSet}
 
@@ -64,11 +65,7 @@ pub well-set-by : (root : ℕ) (w : Leaves)
 unfolding wellSet every leafRules
 well-set-by root w = by (leb (w .count) leafLimit) (ascendsFrom 0 (leafList w)) (all (λ v. ltb v root) (leafList w)) _
   where
-    last-rule : (z : Bool) → z && true ≡ z
-    last-rule true = refl
-    last-rule false = refl
-
     by : (few up low z : Bool) → few && (up && (low && (z && true))) ≡ few && ((up && low) && z)
-    by few true true z = ap (λ (b : Bool). few && b) (last-rule z)
+    by few true true z = ap (λ (b : Bool). few && b) (and-true z)
     by few true false z = refl
     by few false low z = refl

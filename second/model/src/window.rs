@@ -71,8 +71,8 @@ pub fn table(graph: &Graph, root: Var, leaves: &Leaves) -> Result<u64, Refusal> 
     Ok(table_by_patterns(graph, root, leaves))
 }
 
-/// A cut root with the tables of all covered variables up to it, built by
-/// whole words. Where a variable is not covered its table means nothing.
+/// A root with the tables of all covered variables up to it, built by whole
+/// words. Where a variable is not covered its table means nothing.
 pub struct Window {
     pub root: Var,
     covered: Vec<bool>,
@@ -95,6 +95,11 @@ impl Window {
             }
         }
         window
+    }
+
+    /// Whether the leaves cut the root: it is covered.
+    pub fn cuts_root(&self) -> bool {
+        self.covered[self.root.index()]
     }
 
     /// A divisor is a covered variable below the root, 0 included.

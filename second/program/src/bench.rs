@@ -21,13 +21,13 @@ const ROWS: [Row; 6] = [
     ("read and write", 50, both_proved, both_second),
     ("evaluate", 50, Lent::evaluate_proved, Lent::evaluate_second),
     (
-        "leaf rule, all gates",
+        "leaf rule, gates in use",
         1,
         Lent::pick_proved,
         Lent::pick_second,
     ),
     (
-        "table, all gates",
+        "table, gates in use",
         1,
         Lent::table_proved,
         Lent::table_second,

@@ -1,13 +1,19 @@
 //! Random roots and leaf sets, good and bad of every sort.
 
 use crate::Random;
+use model::leaves::MOST_LEAVES;
 use model::{Graph, Leaves, Var};
+
+/// The gates in use, lowest first.
+pub fn gates_in_use(graph: &Graph) -> Vec<Var> {
+    let marks = graph.marks();
+    let gates = graph.numbered_gates().map(|gate| gate.0);
+    gates.filter(|gate| marks[gate.index()]).collect()
+}
 
 /// A gate in use, if there is one.
 pub fn good_root(random: &mut Random, graph: &Graph) -> Option<Var> {
-    let marks = graph.marks();
-    let gates = graph.numbered_gates().map(|gate| gate.0);
-    let in_use: Vec<Var> = gates.filter(|gate| marks[gate.index()]).collect();
+    let in_use = gates_in_use(graph);
     (!in_use.is_empty()).then(|| random.pick(&in_use))
 }
 
@@ -80,4 +86,22 @@ pub fn with_fault(random: &mut Random, root: Var, mut leaves: Leaves) -> Leaves 
         _ => leaves.count = 7,
     }
     leaves
+}
+
+/// Any count and any places: small ones as a rule, and many places 0, so that
+/// at times a set is well set down.
+pub fn noise(random: &mut Random, root: Var) -> Leaves {
+    let count = match random.once_in(8) {
+        true => {
+            let any = random.word() as usize;
+            random.pick(&[any, 1 << 32, usize::MAX])
+        }
+        false => random.between(0, 8),
+    };
+    let places = [0; MOST_LEAVES].map(|_| match random.between(0, 15) {
+        0 => random.word() as u32,
+        1..=7 => 0,
+        _ => random.word_between(0, root.0.saturating_add(1)),
+    });
+    Leaves { count, places }
 }

@@ -8,8 +8,8 @@ use borrow.Author.Needs.{needs}
 use denote.Ref.{now}
 use lib.ListN.{length}
 use Rattle.graph.specs.Graph.{Graph, graphOf, free, sinks, WellFormed}
-use Rattle.graph.proofs.Graph.{net-well-formed}
-use Rattle.evaluator.proofs.Evaluating.{outputs-known, evaluates-nothing, fine-means, evaluates-outputs}
+use Rattle.graph.proofs.Graph.{net-well-formed, sinks-below}
+use Rattle.evaluator.proofs.Evaluating.{evaluates-nothing, fine-means, evaluates-outputs}
 use Rattle.evaluator.proofs.evaluate.Statement.{statement}
 use Rattle.evaluator.proofs.evaluate.Tie as tie
 
@@ -60,7 +60,8 @@ put-values-requires c κs =
     let swept = c .before .before .before in
     let fine = swept .before .before in
     let ok = passed fine in
-    (outputs-known (graph (fine .before .before)) (ok .0 .lawful) _ (omega (arith, swept .sweep .kept .1 .1 .1 .0)), ok .2)
+    let known = length (swept .sweep .last .1 .1 .1 .0) in
+    (sinks-below (graph (fine .before .before)) (ok .0 .lawful) known (omega (arith, swept .sweep .kept .1 .1 .1 .0)), ok .2)
 
 same-length : tie.Need-same-length
 same-length c = search needs

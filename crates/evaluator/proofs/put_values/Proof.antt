@@ -1,26 +1,21 @@
 -- `evaluator::put_values` meets its contract: after k turns the values of the first k literals are written.
 -- Assumes nothing.
 use mathlib.Core.Path.{_≡_, refl, sym, ap, ap₂, _∙_}
-use mathlib.Core.Bool.{Bool, true, false, cond}
+use mathlib.Core.Bool.{Bool, false, cond}
 use mathlib.Core.List.{List, map}
 use Prim.Native.Nat.{ℕ, _-_, _<_, _≤_}
 use native.Mathlib.Omega.{arith}
 use borrow.Author.Needs.{needs}
 use denote.Ref.{now}
-use mir.Val.{boolByte}
 use lib.ListN.{length, getD, take, set, length-set, length-map}
 use lib.Seq.{take-all}
 use Rattle.graph.specs.Lent.{written}
 use Rattle.graph.specs.Sweep.{bools, litValue}
+use Rattle.graph.proofs.Lists.{cast-is}
 use Rattle.graph.proofs.Members.{map-at}
 use Rattle.graph.proofs.Lent.{written-more}
 use Rattle.evaluator.proofs.put_values.Statement.{statement}
 use Rattle.evaluator.proofs.put_values.Tie as tie
-
--- what the code's cast gives
-cast-is : (b : Bool) → boolByte b ≡ cond b 1 0
-cast-is true = refl
-cast-is false = refl
 
 module _ (known : List Bool) (literals : List ℕ) where
   abbrev bits : List ℕ

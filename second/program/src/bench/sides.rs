@@ -1,10 +1,10 @@
 //! What is timed, on the proved side and on this program's.
 
 use model::leaves::leaf_rule;
-use model::window::{self, Window};
-use model::{Graph, Leaves, Var};
+use model::window::Window;
+use model::{Graph, Leaves, Refusal, Var};
 use samples::graphs::{self, BIG};
-use samples::{assignments, texts, Random};
+use samples::{assignments, texts, windows, Random};
 use std::hint::black_box;
 
 const SEED: u64 = 1;
@@ -22,9 +22,7 @@ impl Given {
     pub fn new() -> Given {
         let mut random = Random::new(SEED);
         let graph = graphs::exact(&mut random, BIG);
-        let marks = graph.marks();
-        let gates = graph.numbered_gates().map(|gate| gate.0);
-        let in_use = gates.filter(|gate| marks[gate.index()]);
+        let in_use = windows::gates_in_use(&graph).into_iter();
         Given {
             text: texts::plain(&graph),
             assignment: assignments::good(&mut random, graph.inputs),
@@ -125,12 +123,22 @@ impl Lent {
         }
     }
 
-    /// By whole words, as the lister does, and not pattern by pattern.
     pub fn table_second(&mut self, given: &Given) {
         for ((root, leaves), table) in given.windows.iter().zip(&mut self.tables) {
             let graph = black_box(&given.graph);
-            window::check(graph, *root, leaves).expect("the leaves cut the root");
-            *table = Window::new(graph, *root, leaves).root_table();
+            let answer = table_by_words(graph, *root, leaves);
+            *table = answer.expect("the leaves cut the root");
         }
     }
+}
+
+/// By whole words, as the lister does, and not pattern by pattern. What is
+/// covered is found once, for the test and for the table.
+fn table_by_words(graph: &Graph, root: Var, leaves: &Leaves) -> Result<u64, Refusal> {
+    graph.check()?;
+    graph.check_root(root)?;
+    leaves.check(root)?;
+    let window = Window::new(graph, root, leaves);
+    Refusal::NotACut.unless(window.cuts_root())?;
+    Ok(window.root_table())
 }

@@ -97,6 +97,25 @@ fn bad_leaves_are_refused() {
 }
 
 #[test]
+fn noise_is_refused_unless_its_leaves_are_well_set_down() {
+    let mut random = Random::new(50);
+    let mut well_set_down = 0;
+    for _ in 0..3000 {
+        let (graph, root, _) = window(&mut random);
+        let leaves = windows::noise(&mut random, root);
+        let used = leaves.places.get(..leaves.count);
+        let good = used.is_some_and(|used| {
+            let set = Leaves::of(used.iter().map(|&leaf| Var(leaf)));
+            set == Some(leaves) && used.iter().all(|&leaf| leaf < root.0)
+        });
+        let refusal = table(&graph, root, &leaves).err();
+        assert_eq!(refusal == Some(Refusal::BadLeaves), !good, "{leaves:?}");
+        well_set_down += usize::from(good);
+    }
+    assert!((1..3000).contains(&well_set_down), "{well_set_down}");
+}
+
+#[test]
 fn leaves_that_cut_are_refused_after_a_fault() {
     let mut random = Random::new(58);
     for _ in 0..3000 {

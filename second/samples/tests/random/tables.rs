@@ -1,7 +1,7 @@
 //! Tables by whole words against tables by single patterns.
 
 use crate::{naive, roots};
-use model::window::{covered, Window};
+use model::window::Window;
 use model::{table, Refusal, Var};
 use samples::{graphs, windows};
 
@@ -41,7 +41,7 @@ fn with_fewer_leaves_the_table_repeats() {
 fn leaves_well_set_down_are_a_cut_or_refused_as_none() {
     roots::each(44, 3000, graphs::any, |random, graph, root| {
         let leaves = windows::good_leaves(random, root);
-        let is_cut = covered(graph, root, &leaves)[root.index()];
+        let is_cut = Window::new(graph, root, &leaves).cuts_root();
         let refusal = table(graph, root, &leaves).err();
         assert_eq!(refusal, (!is_cut).then_some(Refusal::NotACut));
     });

@@ -9,7 +9,8 @@ use mir.Val.{boolByte}
 use Rattle.graph.specs.Graph.{netOf, size}
 use Rattle.graph.specs.Use.{countMarks}
 use Rattle.checker.specs.Marks.{marksIn}
-use Rattle.checker.proofs.Marking.{count-few, count-more}
+use Rattle.graph.proofs.Renumber.{count-most}
+use Rattle.checker.proofs.Marking.{count-more}
 use Rattle.checker.proofs.usage.count_marks.Statement.{statement}
 use Rattle.checker.proofs.usage.count_marks.Tie as tie
 
@@ -56,7 +57,7 @@ cast-found c = search needs
 add-found : tie.Need-add-found Inv-loop μ-loop
 add-found c =
     let l = c .before .before in
-    let few : counted (l .before .before .before) (l .loop .k + 1) ≤ l .loop .k + 1 = count-few _ _ _ in
+    let few : counted (l .before .before .before) (l .loop .k + 1) ≤ l .loop .k + 1 = count-most _ _ _ in
     omega (arith, more c)
 
 add-k : tie.Need-add-k Inv-loop μ-loop

@@ -48,8 +48,9 @@ set-mark-requires-2 c κs =
     let m = first-at c in
     let f = fanins-at m in
     let s = start f in
+    let low = first-lower _ (s .pre .0 .lawful) (s .args .v .0) (s .pre .1) in
     let lower = second-lower _ (s .pre .0 .lawful) (s .args .v .0) (s .pre .1) in
-    omega (arith, c .var2 .ensures, f .fanins-of .ensures .1, marks-length (now (s .args .marks)), marks-length (m .set-mark .last .0))
+    omega (arith, c .var2 .ensures, f .fanins-of .ensures, marks-length (now (s .args .marks)), marks-length (m .set-mark .last .0))
 
 same-length : tie.Need-same-length
 same-length c = search needs

@@ -1,66 +1,50 @@
--- `checker::usage::used_gates` meets its contract: the whole pass leads to the marks of the definition, which are counted.
+-- `checker::usage::used_gates` meets its contract: the marks of the definition are counted.
 -- Assumes nothing.
-use mathlib.Core.Path.{_∙_}
+use mathlib.Core.Path.{sym, ap, _∙_}
+use mathlib.Core.Bool.{false}
+use Prim.Native.Nat.{ℕ}
 use native.Mathlib.Omega.{arith}
 use borrow.Author.Needs.{needs}
 use denote.Ref.{now}
+use lib.ListN.{replicate}
 use Rattle.graph.specs.Graph.{Graph, graphOf}
+use Rattle.graph.specs.Use.{marksOver}
 use Rattle.graph.proofs.Graph.{net-well-formed}
-use Rattle.checker.proofs.Marking.{marks-length, mostVariables, fresh-have-marks, marks-counted}
+use Rattle.checker.proofs.Marking.{marks-length, fresh-marks, fresh-long, mostVariables, marks-counted}
 use Rattle.checker.proofs.usage.used_gates.Statement.{statement}
 use Rattle.checker.proofs.usage.used_gates.Tie as tie
 
-abbrev start : tie.After-mark-each → tie.Start
+abbrev start : tie.After-mark-used → tie.Start
 start m = m .before .before .before .before
-
-abbrev outputs-at : tie.After-mark-after → tie.After-mark-each
-outputs-at a = a .before .before .before
 
 abbrev graph : tie.Start → Graph
 graph s = graphOf (s .args .inputs) (now (s .args .gates)) (now (s .args .outputs))
 
-slice-aggregate-mark-each : tie.Need-slice-aggregate-mark-each
-slice-aggregate-mark-each c = search needs
+slice-aggregate-mark-used : tie.Need-slice-aggregate-mark-used
+slice-aggregate-mark-used c = search needs
 
-mark-each-requires : tie.Need-mark-each-requires
-mark-each-requires c κs =
+mark-used-requires : tie.Need-mark-used-requires
+mark-used-requires c κs =
     let s = c .before .before .before in
-    fresh-have-marks (graph s) (s .pre .lawful) mostVariables (omega arith)
-
-slice-aggregate-mark-after : tie.Need-slice-aggregate-mark-after
-slice-aggregate-mark-after c = search needs
-
-mark-after-requires : tie.Need-mark-after-requires
-mark-after-requires c κs =
-    let m = c .before .before in
-    let s = start m in
-    (net-well-formed (graph s) (s .pre), omega arith, omega (arith, marks-length (m .mark-each .last .1 .0)))
+    let long = fresh-long mostVariables in
+    ((s .pre, omega (arith, long)), fresh-marks mostVariables ∙ ap (λ (k : ℕ). replicate k false) (sym long))
 
 slice-aggregate-count-marks : tie.Need-slice-aggregate-count-marks
 slice-aggregate-count-marks c = search needs
 
 count-marks-requires : tie.Need-count-marks-requires
 count-marks-requires c κs =
-    let a = c .before .before in
-    let s = start (outputs-at a) in
-    (net-well-formed (graph s) (s .pre), omega (arith, marks-length (a .mark-after .last .1 .1 .1 .0)))
+    let m = c .before .before in
+    (net-well-formed (graph (start m)) (start m .pre), omega (arith, marks-length (m .mark-used .last .1 .1 .1 .0)))
 
 returns : tie.Need-returns
 returns c =
-    let a = c .before .before .before in
-    let m = outputs-at a in
+    let m = c .before .before .before in
     let s = start m in
-    c .count-marks .ensures
-    ∙ marks-counted (graph s) (s .pre .lawful) mostVariables (omega arith) (m .mark-each .ensures) (a .mark-after .ensures)
+    let marked = m .mark-used .ensures ∙ ap (λ (n : ℕ). marksOver n (graph s)) (fresh-long mostVariables) in
+    c .count-marks .ensures ∙ marks-counted (graph s) (s .pre .lawful) mostVariables (omega arith) marked
 
 pub used-gates-spec : {M : Type 1} → statement M
 used-gates-spec =
     tie.close
-    (tie.spec
-    slice-aggregate-mark-each
-    mark-each-requires
-    slice-aggregate-mark-after
-    mark-after-requires
-    slice-aggregate-count-marks
-    count-marks-requires
-    returns)
+    (tie.spec slice-aggregate-mark-used mark-used-requires slice-aggregate-count-marks count-marks-requires returns)

@@ -69,12 +69,14 @@ fn no_gate(random: &mut Random, graph: &Graph) -> Var {
     }
 }
 
-/// Random leaves, good and bad; and on a good graph leaves that cut and those
-/// that the rule picks, as they are and damaged.
+/// Random leaves, good and bad, and noise; and on a good graph leaves that cut
+/// and those that the rule picks, as they are and damaged.
 fn leaf_sets(random: &mut Random, graph: &Graph, root: Var) -> Vec<Leaves> {
     let mut sets = vec![
         windows::good_leaves(random, root),
         windows::bad_leaves(random, root),
+        windows::noise(random, root),
+        windows::noise(random, root),
     ];
     if graph.is_well_formed() {
         for leaves in [windows::cut(random, graph, root), leaf_rule(graph, root)] {
@@ -82,17 +84,19 @@ fn leaf_sets(random: &mut Random, graph: &Graph, root: Var) -> Vec<Leaves> {
                 leaves,
                 windows::one_leaf_changed(random, root, leaves),
                 windows::with_fault(random, root, leaves),
-                with_high_count(leaves),
+                with_higher_count(leaves, 1),
+                with_higher_count(leaves, 1 << 32),
             ]);
         }
     }
     sets
 }
 
-/// A count past the limit whose low half is the right one.
-fn with_high_count(leaves: Leaves) -> Leaves {
+/// A count too high by so many: by 1 it takes in a place that is 0, if one is
+/// left; by 1 << 32 its low half is the right one.
+fn with_higher_count(leaves: Leaves, more: usize) -> Leaves {
     Leaves {
-        count: leaves.count + (1 << 32),
+        count: leaves.count + more,
         ..leaves
     }
 }

@@ -1,14 +1,16 @@
 -- `window::Leaves::well_set` meets its contract: the count decides first, then the leaves, then the places that no leaf uses.
 -- Assumes nothing.
 use mathlib.Core.Path.{sym, _∙_}
+use native.Mathlib.Omega.{arith}
 use borrow.Author.Needs.{needs}
 use borrow.Author.Tests.{lt-leb, le-leb, not-true, not-false}
+use Rattle.window.specs.Leaves.{leafLimit}
 use Rattle.window.proofs.Places.{well-set-by}
 use Rattle.window.proofs.leaf_set.Leaves.well_set.Statement.{statement}
 use Rattle.window.proofs.leaf_set.Leaves.well_set.Tie as tie
 
 returns : tie.Need-returns
-returns c = sym (well-set-by _ _ ∙ rw (lt-leb _ _ (c .if1 .taken)))
+returns c = sym (well-set-by _ _ ∙ rw (lt-leb (c .before .before .args .self .count) leafLimit (omega arith)))
 
 ascends-requires : tie.Need-ascends-requires
 ascends-requires c κs = search needs
