@@ -112,9 +112,58 @@ fn bad_leaves() {
     tables_e1(b"variable 0 as a leaf", 4, 2, 0, 1);
 }
 
-fn more_bad_leaves() {
+fn leaves_out_of_place() {
     tables_e1(b"the root as a leaf", 4, 2, 1, 4);
     tables_e1(b"an unused place", 4, 1, 1, 2);
+}
+
+fn roots_of_tables() {
+    tables(b"gate 3 2 over 1", 1, &[3, 2], &[4], 2, two_places(1, 1, 0));
+    tables(
+        b"not in use",
+        2,
+        &[4, 2, 4, 3],
+        &[6],
+        4,
+        two_places(2, 1, 2),
+    );
+    tables_e1(b"root 2 over none", 2, 0, 0, 0);
+}
+
+fn table_limits() {
+    tables(
+        b"64 inputs over 2",
+        64,
+        &[128, 2],
+        &[130],
+        65,
+        two_places(2, 1, 64),
+    );
+    tables(
+        b"65 inputs over 2",
+        65,
+        &[130, 2],
+        &[132],
+        66,
+        two_places(2, 1, 65),
+    );
+    let gates = [0u32; 2050];
+    tables(
+        b"1,024 gates over none",
+        0,
+        &gates[..2048],
+        &[2048],
+        1024,
+        two_places(0, 0, 0),
+    );
+    tables(
+        b"1,025 gates over none",
+        0,
+        &gates,
+        &[2048],
+        1024,
+        two_places(0, 0, 0),
+    );
 }
 
 fn table_pairs() {
@@ -147,7 +196,9 @@ pub fn run() {
     ladder();
     leaf_sets();
     bad_leaves();
-    more_bad_leaves();
+    leaves_out_of_place();
+    roots_of_tables();
+    table_limits();
     table_pairs();
     and_of_six(b"six leaves", 6);
     and_of_six(b"seven leaves", 7);

@@ -2,7 +2,7 @@
 ghost use mathlib.Core.Path.{_≡_};
 ghost use mathlib.Core.Option.{Option·getD};
 ghost use Prim.Native.Nat.{_<_, _≤_};
-ghost use lib.ListN.{length, getD};
+ghost use lib.ListN.{length, getD, set};
 ghost use Rattle.graph.specs.Literal.{varOf};
 ghost use Rattle.graph.specs.Lent.{written};
 ghost use Rattle.graph.specs.Graph.{netOf, last, WellFormedNet};
@@ -20,13 +20,21 @@ use graph::fanins_of;
 use window::Leaves;
 use window::Table;
 
-// The table that lent words hold of variable v.
+// The table that lent words hold of variable v. Only this function and the next know how tables lie there.
 pub fn table_at(tables: &[u64], v: Var) -> Table
     requires { ⌜ v .0 < length (now tables) ⌝ }
     ensures { λ r. ⌜ r .0 ≡ getD (now (tables .entry)) (v .0) 0 ⌝ }
 {
     let at = v.at();
     Table(tables[at])
+}
+
+fn set_table(tables: &mut [u64], v: Var, t: Table)
+    requires { ⌜ v .0 < length (now tables) ⌝ }
+    ensures { λ _. ⌜ now (tables .exit) ≡ set (now (tables .entry)) (v .0) (t .0) ⌝ }
+{
+    let at = v.at();
+    tables[at] = t.0;
 }
 
 // The table of a literal.
@@ -66,14 +74,13 @@ pub fn fill_tables(inputs: usize, gates: &[u32], leaves: Leaves, root: Var, tabl
     ensures { λ _. ⌜ now (tables .exit)
         ≡ written (wordsUpTo (netOf inputs (now (gates .entry))) leaves (root .0)) (now (tables .entry)) ⌝ }
 {
-    tables[0] = Table::zero().0;
+    set_table(tables, Var(0), Table::zero());
     let mut next = leaf_from(leaves, 0);
     let mut n = 0;
     while n < root.0 {
         let v = Var(n + 1);
         let t = variable_table(inputs, gates, tables, v, next);
-        let at = v.at();
-        tables[at] = t.0;
+        set_table(tables, v, t);
         next = passed(leaves, next, v);
         n = v.0;
     }

@@ -12,7 +12,7 @@ use Rattle.graph.specs.Lent.{Buffers, RoomFor, Effect, _leaving_}
 use Rattle.graph.specs.Literal.{varOf}
 use Rattle.graph.specs.Graph.{Graph, size, first, second, IsGate, WellFormed}
 use Rattle.graph.specs.declared.evaluated.Evaluated.{Evaluated}
-use Rattle.graph.specs.Evaluate.{outputsUnder, assignmentOf}
+use Rattle.graph.specs.Evaluate.{outputsUnder, assignmentOf, Assignment}
 use Rattle.graph.specs.Use.{InUse, usedGates}
 use Rattle.text.specs.declared.ReadText.{ReadText}
 use Rattle.text.specs.declared.WrittenText.{WrittenText}
@@ -128,7 +128,7 @@ pub record RanAs (g h : Graph) (made : ℕ) (b : RunBuffers) (e : Effect Ran Run
   pub keeps : Keeps g h
   pub none-left : NoneLeft h
 
--- ---- calls in a row
+-- ---- calls alone and in a row
 
 -- what was written is read into lent lists; where writing was refused, that is the answer
 unfoldable pub readBack : Effect WrittenText (List ℕ) → Buffers → Effect ReadText Buffers
@@ -141,6 +141,16 @@ abbrev pub WrittenAgain : Graph → List ℕ → Buffers → ReadText → Buffer
 WrittenAgain g bytes before r after =
     WellFormed g → length (textOf g) ≤ length bytes → RoomFor g before
     → ReadAs g before (r leaving after)
+
+-- a table was asked for over lent leaves: over a window it is told
+abbrev pub Tabled : Graph → ℕ → Leaves → RootTable → Type 0
+Tabled g root w t = Window g root w → TableAs g root w t
+
+-- g was evaluated into lent words: a well-formed g under an assignment of its inputs, with room, leaves its outputs' values
+abbrev pub ValuesLeft : Graph → List ℕ → List ℕ → Evaluated → List ℕ → Type 0
+ValuesLeft g vs before r after =
+    WellFormed g → Assignment (g .net) vs → length (g .outputs) ≤ length before
+    → EvaluatedAs g vs before (r leaving after)
 
 -- leaves were picked for a root, and its table asked for over them: at a gate in use of a well-formed graph both are accepted
 abbrev pub PickedAndTabled : Graph → ℕ → Picked → RootTable → Type 0

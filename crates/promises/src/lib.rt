@@ -1,14 +1,17 @@
-// Promises about calls in a row: a function here only makes the calls. Its last clause is the promise; those before it fix the answers and
-// every lent word, as the calls' own contracts do.
+// Promises about calls, alone and in a row: a function here only makes the calls. Its last clause is the promise; those before it fix the
+// answers and every lent word, as the calls' own contracts do.
 ghost use mathlib.Core.Path.{_≡_};
 ghost use Rattle.graph.specs.Graph.{graphOf};
+ghost use Rattle.graph.specs.Evaluate.{evaluateEffect};
 ghost use Rattle.graph.specs.Lent.{buffersOf, _leaving_};
 ghost use Rattle.text.specs.Calls.{readEffect, writeEffect};
 ghost use Rattle.window.specs.Calls.{pickAnswer, tableAnswer};
-ghost use Rattle.promises.specs.Promises.{readBack, WrittenAgain, PickedAndTabled, SameAgain};
+ghost use Rattle.promises.specs.Promises.{readBack, WrittenAgain, PickedAndTabled, Tabled, ValuesLeft, SameAgain};
+use graph::Evaluated;
 use graph::Var;
 use text::ReadText;
 use text::WrittenText;
+use window::Leaves;
 use window::Picked;
 use window::RootTable;
 
@@ -77,4 +80,34 @@ pub fn pick_then_table(inputs: usize, gates: &[u32], outputs: &[u32], root: Var)
     let picked = cutter::pick(inputs, gates, outputs, root);
     let table = cutter::table(inputs, gates, outputs, root, picked.leaves);
     LeavesAndTable { picked, table }
+}
+
+// Asks for a root's table over lent leaves.
+pub fn table_over(
+    inputs: usize,
+    gates: &[u32],
+    outputs: &[u32],
+    root: Var,
+    leaves: Leaves,
+) -> RootTable
+    ensures { λ r. ⌜ r ≡ tableAnswer (graphOf inputs (now (gates .entry)) (now (outputs .entry))) (root .0) leaves ⌝ }
+    ensures { λ r. ⌜ Tabled (graphOf inputs (now (gates .entry)) (now (outputs .entry))) (root .0) leaves r ⌝ }
+{
+    cutter::table(inputs, gates, outputs, root, leaves)
+}
+
+// Evaluates a graph under a lent assignment.
+pub fn evaluate_under(
+    inputs: usize,
+    gates: &[u32],
+    outputs: &[u32],
+    assignment: &[u32],
+    values: &mut [u32],
+) -> Evaluated
+    ensures { λ r. ⌜ r leaving now (values .exit)
+        ≡ evaluateEffect (graphOf inputs (now (gates .entry)) (now (outputs .entry))) (now (assignment .entry)) (now (values .entry)) ⌝ }
+    ensures { λ r. ⌜ ValuesLeft (graphOf inputs (now (gates .entry)) (now (outputs .entry))) (now (assignment .entry)) (now (values .entry)) r
+        (now (values .exit)) ⌝ }
+{
+    evaluator::evaluate(inputs, gates, outputs, assignment, values)
 }
