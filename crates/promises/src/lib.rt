@@ -106,8 +106,8 @@ pub fn evaluate_under(
 ) -> Evaluated
     ensures { λ r. ⌜ r leaving now (values .exit)
         ≡ evaluateEffect (graphOf inputs (now (gates .entry)) (now (outputs .entry))) (now (assignment .entry)) (now (values .entry)) ⌝ }
-    ensures { λ r. ⌜ ValuesLeft (graphOf inputs (now (gates .entry)) (now (outputs .entry))) (now (assignment .entry)) (now (values .entry)) r
-        (now (values .exit)) ⌝ }
+    ensures { λ r. ⌜ ValuesLeft (graphOf inputs (now (gates .entry)) (now (outputs .entry))) (now (assignment .entry))
+        (now (values .entry)) r (now (values .exit)) ⌝ }
 {
     evaluator::evaluate(inputs, gates, outputs, assignment, values)
 }
