@@ -1,4 +1,4 @@
-// Marks of variables in lent memory. Only these two functions know how they lie there.
+// Marks of variables in lent memory, set and read through these two functions alone.
 ghost use mathlib.Core.Path.{_≡_};
 ghost use mathlib.Core.Bool.{true, false};
 ghost use Prim.Native.Nat.{_<_};

@@ -20,7 +20,7 @@ use graph::fanins_of;
 use window::Leaves;
 use window::Table;
 
-// The table that lent words hold of variable v. Only this function and the next know how tables lie there.
+// The table that lent words hold of variable v. Tables are read and stored through this function and the next alone.
 pub fn table_at(tables: &[u64], v: Var) -> Table
     requires { ⌜ v .0 < length (now tables) ⌝ }
     ensures { λ r. ⌜ r .0 ≡ getD (now (tables .entry)) (v .0) 0 ⌝ }
