@@ -4,6 +4,7 @@ use mathlib.Core.Path.{_≡_, refl, sym, ap, ap₂, _∙_}
 use mathlib.Core.Bool.{Bool, true, false, cond}
 use mathlib.Core.List.{List}
 use Prim.Native.Nat.{ℕ, zero, suc, _+_, _-_, _≤_, _<_}
+use native.Mathlib.Nat.{le-refl}
 use native.Mathlib.Numerals.{add-one}
 use native.Mathlib.Omega.{arith}
 use borrow.Author.Tests.{le-leb, lt-leb, lt-ltb, le-ltb}
@@ -89,12 +90,14 @@ module _ (net : Net) (ms : List Bool) where
       let e : free net + k + 1 ≡ suc (free net + k) = omega arith in
       rw (add-one k, e) (ap (λ (n : ℕ). countMarks net ms k + n) (cast-is (getD ms (suc (free net + k)) false)))
 
-  -- lists that hold the same marks have the same number of them
-  count-same : (ms′ : List Bool) → ((v : ℕ) → getD ms v false ≡ getD ms′ v false) → (k : ℕ) → countMarks net ms k ≡ countMarks net ms′ k
+  -- lists that hold the same marks of gates have the same number of them
+  pub count-same : (ms′ : List Bool) → ((v : ℕ) → IsGate net v → getD ms v false ≡ getD ms′ v false)
+      → (k : ℕ) → k ≤ size net → countMarks net ms k ≡ countMarks net ms′ k
   unfolding countMarks
-  count-same ms′ same zero = refl
-  count-same ms′ same (suc k) =
-      ap₂ _+_ (count-same ms′ same k) (ap (λ (b : Bool). cond b 1 0) (same (suc (free net + k))))
+  count-same ms′ same zero h = refl
+  count-same ms′ same (suc k) h =
+      ap₂ _+_ (count-same ms′ same k (omega arith))
+      (ap (λ (b : Bool). cond b 1 0) (same (suc (free net + k)) (record { above = omega arith; within = omega arith })))
 
 -- ---- only gates are in use
 
@@ -140,7 +143,7 @@ module _ (g : Graph) (ok : Lawful g) where
   pub marks-counted : (n : ℕ) → last (g .net) < n → {ms : List Bool} → ms ≡ marksOver n g
       → countMarks (g .net) ms (size (g .net)) ≡ usedGates g
   unfolding usedGates
-  marks-counted n room e = rw e (count-same (g .net) _ (marks g) (marks-longer g ok n room) (size (g .net)))
+  marks-counted n room e = rw e (count-same (g .net) _ (marks g) (λ v i. marks-longer g ok n room v) (size (g .net)) (le-refl _))
 
 -- the whole pass over marks that are all unset
 pub marks-made : (g : Graph) (n : ℕ) {before outs done : List Bool} → before ≡ replicate n false → outs ≡ markEach (sinks g) before

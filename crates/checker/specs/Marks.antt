@@ -10,7 +10,7 @@ use Rattle.graph.specs.Use.{markFanins}
 unfoldable pub marksIn : List Bool → List Bool
 marksIn places = places
 
--- the fanins are marked of the n gates after the k-th, from the highest down
+-- the fanins are marked of the n gates after the k-th, from the highest of them down
 unfoldable pub markAfter : Net → ℕ → ℕ → List Bool → List Bool
 unfolding markFanins
 markAfter net k zero ms = ms

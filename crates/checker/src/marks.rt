@@ -1,4 +1,4 @@
-// Marks of variables in lent memory, set and read through these two functions alone.
+// Marks of variables in lent memory, set, taken off and read through these three functions alone.
 ghost use mathlib.Core.Path.{_≡_};
 ghost use mathlib.Core.Bool.{true, false};
 ghost use Prim.Native.Nat.{_<_};
@@ -12,6 +12,14 @@ pub fn set_mark(marks: &mut [bool], v: Var)
 {
     let at = v.at();
     marks[at] = true;
+}
+
+pub fn clear_mark(marks: &mut [bool], v: Var)
+    requires { ⌜ v .0 < length (marksIn (now marks)) ⌝ }
+    ensures { λ _. ⌜ marksIn (now (marks .exit)) ≡ set (marksIn (now (marks .entry))) (v .0) false ⌝ }
+{
+    let at = v.at();
+    marks[at] = false;
 }
 
 pub fn has_mark(marks: &[bool], v: Var) -> bool

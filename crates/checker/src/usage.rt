@@ -15,7 +15,7 @@ use graph::Var;
 use graph::fanins_of;
 
 // The variables of these literals are marked.
-fn mark_each(literals: &[u32], marks: &mut [bool])
+pub fn mark_each(literals: &[u32], marks: &mut [bool])
     requires { ⌜ LiteralsBelow (now literals) (length (marksIn (now marks))) ⌝ }
     ensures { λ _. ⌜ marksIn (now (marks .exit)) ≡ markEach (now (literals .entry)) (marksIn (now (marks .entry))) ⌝ }
 {
@@ -39,14 +39,14 @@ fn mark_fanins(inputs: usize, gates: &[u32], v: Var, marks: &mut [bool])
     }
 }
 
-// So from the highest gate down to the one after the k-th.
-fn mark_after(inputs: usize, gates: &[u32], k: usize, marks: &mut [bool])
-    requires { ⌜ WellFormedNet (netOf inputs (now gates)) × (k ≤ size (netOf inputs (now gates)))
+// So from the gate numbered `from`, the first being 1, down to the one after the k-th.
+pub fn mark_after(inputs: usize, gates: &[u32], from: usize, k: usize, marks: &mut [bool])
+    requires { ⌜ WellFormedNet (netOf inputs (now gates)) × (k ≤ from) × (from ≤ size (netOf inputs (now gates)))
         × (last (netOf inputs (now gates)) < length (marksIn (now marks))) ⌝ }
     ensures { λ _. ⌜ marksIn (now (marks .exit))
-        ≡ markAfter (netOf inputs (now (gates .entry))) k (size (netOf inputs (now (gates .entry))) - k) (marksIn (now (marks .entry))) ⌝ }
+        ≡ markAfter (netOf inputs (now (gates .entry))) k (from - k) (marksIn (now (marks .entry))) ⌝ }
 {
-    let mut next = gates.len() / 2;
+    let mut next = from;
     while k < next {
         let v = Var((inputs + next) as u32);
         mark_fanins(inputs, gates, v, marks);
@@ -63,7 +63,7 @@ pub fn mark_used(inputs: usize, gates: &[u32], outputs: &[u32], marks: &mut [boo
         ≡ marksOver (length (marksIn (now (marks .entry)))) (graphOf inputs (now (gates .entry)) (now (outputs .entry))) ⌝ }
 {
     mark_each(outputs, marks);
-    mark_after(inputs, gates, 0, marks);
+    mark_after(inputs, gates, gates.len() / 2, 0, marks);
 }
 
 // The gate is in use, where v may be any number: marks above it decide.
@@ -79,7 +79,7 @@ pub fn in_use(inputs: usize, gates: &[u32], outputs: &[u32], v: Var) -> bool
     }
     let mut marks = [false; MOST_VARIABLES];
     mark_each(outputs, &mut marks);
-    mark_after(inputs, gates, v.at() - inputs, &mut marks);
+    mark_after(inputs, gates, gates.len() / 2, v.at() - inputs, &mut marks);
     has_mark(&marks, v)
 }
 

@@ -108,7 +108,7 @@ module _ {A : Type 0} (K : Algebra A) (net net′ : Net) where
 
 -- ---- a map between kinds that keeps variable 0, the AND, the complement and own values keeps every value
 
-cond-map : {A B : Type 0} (h : A → B) (b : Bool) (x y : A) → h (cond b x y) ≡ cond b (h x) (h y)
+pub cond-map : {A B : Type 0} (h : A → B) (b : Bool) (x y : A) → h (cond b x y) ≡ cond b (h x) (h y)
 cond-map h true x y = refl
 cond-map h false x y = refl
 

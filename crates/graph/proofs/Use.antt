@@ -41,7 +41,7 @@ use Rattle.graph.proofs.Marks.{
   fanins-only,
 }
 
-none-marked : (n v : ℕ) → ¬ Marked (replicate n false) v
+pub none-marked : (n v : ℕ) → ¬ Marked (replicate n false) v
 none-marked zero v m = false≢true m
 none-marked (suc n) zero m = false≢true m
 none-marked (suc n) (suc v) m = none-marked n v m

@@ -29,7 +29,7 @@ module _ (g : Graph) (root : ℕ) (p : Proposal) where
   unfolding finished
   finished-free = dropped-free (rewired g root p) ∙ unfold rewired in rewired-free (g .net) root p
 
-  finished-sinks : length (sinks (finished g root p)) ≡ length (sinks g)
+  pub finished-sinks : length (sinks (finished g root p)) ≡ length (sinks g)
   unfolding finished dropped rewired
   finished-sinks = length-map (sinks (rewired g root p)) (renumbered (rewired g root p .net) _) ∙ length-map (sinks g) (redirected root p)
 

@@ -12,7 +12,7 @@ use Rattle.graph.specs.Graph.{Graph}
 use Rattle.graph.specs.Use.{usedGates}
 use Rattle.graph.proofs.Lists.{at-most-or-above}
 use Rattle.replacement.specs.declared.types.Proposal.{Proposal}
-use Rattle.replacement.specs.Rewire.{finished, gain, atLeastOne}
+use Rattle.replacement.specs.Rewire.{finished, gain, atLeastOne, positive}
 
 -- a difference of at least 1 is a falling number
 at-least-one-falls : (a b : ℕ) → atLeastOne (subℕ a b) ≡ true → b < a
@@ -48,6 +48,20 @@ same-difference a b c d e =
     (λ l. lt-ltb a b (omega arith) ∙ sym (lt-ltb c d l)) (λ l. le-ltb a b (omega arith) ∙ sym (le-ltb c d (omega arith)))
     (at-most-or-above (suc c) d) in
     rw (t, m, n)
+
+-- a difference that is not negative is that of natural numbers
+pub positive-difference : (a b : ℕ) → positive (subℕ a b) ≡ a - b
+unfolding positive
+positive-difference a b = go (ltb a b) refl
+  where
+    go : (t : Bool) → ltb a b ≡ t → positive (cond t (negsuc (b - suc a)) (pos (a - b))) ≡ a - b
+    go true q = let l = ltb-true a b q in omega arith
+    go false q = refl
+
+pub positive-iff : (z : ℤ) → (atLeastOne z ≡ true) ↔ (0 < positive z)
+unfolding atLeastOne positive
+positive-iff (pos n) = (ltb-true 0 n, lt-ltb 0 n)
+positive-iff (negsuc n) = (λ e. absurd (false≢true e), λ l. absurd (omega arith))
 
 module _ (g : Graph) (root : ℕ) (p : Proposal) where
   pub gain-iff : (atLeastOne (gain g root p) ≡ true) ↔ (usedGates (finished g root p) < usedGates g)

@@ -10,27 +10,22 @@ use lib.IntN.{pos, subℕ}
 use Rattle.graph.specs.Graph.{Graph, Lawful}
 use Rattle.graph.specs.Use.{InUse, usedGates}
 use Rattle.graph.proofs.Drop.{dropped-uses}
-use Rattle.window.specs.declared.leaf_set.Leaves.{Leaves}
 use Rattle.replacement.specs.declared.types.Proposal.{Proposal}
-use Rattle.replacement.specs.Proposal.{AllowedByTest}
-use Rattle.replacement.specs.Rewire.{rewired, finished, gain, atLeastOne}
+use Rattle.replacement.specs.Rewire.{Wires, rewired, finished, gain, atLeastOne}
 use Rattle.replacement.specs.Vanish.{newGates, vanishing, heldBack}
-use Rattle.replacement.proofs.Rewire.{wires-of, rewired-lawful}
+use Rattle.replacement.proofs.Rewire.{rewired-lawful}
 use Rattle.replacement.proofs.Gain.{difference, same-difference, gain-iff}
 use Rattle.replacement.proofs.Vanish.{new-and, rewired-balance}
 
-module _ (g : Graph) (ok : Lawful g) (root : ℕ) (used : InUse g root) (w : Leaves) (p : Proposal)
-    (rule : AllowedByTest (g .net) root w p) where
+module _ (g : Graph) (ok : Lawful g) (root : ℕ) (used : InUse g root) (p : Proposal) (wires : Wires root p) where
   -- in natural numbers
   pub gain-balance : usedGates (finished g root p) + vanishing g root ≡ usedGates g + (newGates p + heldBack g root p)
   unfolding finished
-  gain-balance =
-      let wires = wires-of (g .net) root w p rule in
-      omega (
-        arith,
-        dropped-uses (rewired g root p) (rewired-lawful g ok root (used .is-gate) p wires),
-        rewired-balance g ok root (used .is-gate) p wires (used .is-reached),
-      )
+  gain-balance = omega (
+    arith,
+    dropped-uses (rewired g root p) (rewired-lawful g ok root (used .is-gate) p wires),
+    rewired-balance g ok root (used .is-gate) p wires (used .is-reached),
+  )
 
   pub gain-law : gain g root p ≡ subℕ (vanishing g root) (newGates p + heldBack g root p)
   unfolding gain

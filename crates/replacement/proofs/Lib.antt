@@ -9,5 +9,6 @@ pub mod Counts
 pub mod Past
 pub mod Vanish
 pub mod GainLaw
+pub mod Weighed
 pub mod Finished
 pub mod Calls

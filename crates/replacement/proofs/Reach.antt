@@ -18,21 +18,9 @@ use Rattle.graph.proofs.Members.{map-at}
 use Rattle.graph.proofs.Marks.{NamedBy}
 use Rattle.graph.proofs.Use.{first-lower, second-lower}
 use Rattle.replacement.specs.declared.types.Proposal.{Proposal}
-use Rattle.replacement.specs.Rewire.{standIn, redirected, rewiredNet, rewired}
+use Rattle.replacement.specs.Rewire.{Wires, to-literal, to-and, standIn, redirected, rewiredNet, rewired}
 use Rattle.replacement.specs.Vanish.{Without, by-output, by-first, by-second, literals, From}
-use Rattle.replacement.proofs.Rewire.{
-  literal-stands,
-  root-stands,
-  redirected-root,
-  redirected-other,
-  rewired-size,
-  rewired-free,
-  other-gate,
-  and-root,
-  Wires,
-  to-literal,
-  to-and,
-}
+use Rattle.replacement.proofs.Rewire.{literal-stands, root-stands, redirected-root, redirected-other, rewired-size, rewired-free, other-gate, and-root}
 
 -- ---- reached by fanins, whichever of the two
 

@@ -16,23 +16,10 @@ use Rattle.graph.proofs.Evaluate.{literal-value, value-gate}
 use Rattle.graph.proofs.Stand.{moved, Copies, in-order, exchanged}
 use Rattle.replacement.specs.declared.types.Proposal.{Proposal}
 use Rattle.replacement.specs.Proposal.{proposedValue}
-use Rattle.replacement.specs.Rewire.{standIn, redirected, rewired}
+use Rattle.replacement.specs.Rewire.{Wires, to-literal, to-and, standIn, redirected, rewired}
 use Rattle.replacement.proofs.Circuit.{Replaced}
 use Rattle.replacement.proofs.Proposal.{value-of-literal, value-of-and}
-use Rattle.replacement.proofs.Rewire.{
-  literal-stands,
-  root-stands,
-  redirected-root,
-  redirected-other,
-  rewired-size,
-  rewired-free,
-  other-gate,
-  and-root,
-  Wires,
-  to-literal,
-  to-and,
-  rewired-lawful,
-}
+use Rattle.replacement.proofs.Rewire.{literal-stands, root-stands, redirected-root, redirected-other, rewired-size, rewired-free, other-gate, and-root, rewired-lawful}
 
 -- the literal that stands for variable v afterwards
 pub standFor : ℕ → Proposal → ℕ → ℕ

@@ -16,7 +16,7 @@ use Rattle.graph.proofs.Members.{map-at}
 use Rattle.window.specs.declared.leaf_set.Leaves.{Leaves}
 use Rattle.replacement.specs.declared.types.Proposal.{Proposal}
 use Rattle.replacement.specs.Proposal.{AllowedByTest, a-literal, an-and}
-use Rattle.replacement.specs.Rewire.{standIn, redirected, rootGates, rewiredGate, rewiredNet, rewired}
+use Rattle.replacement.specs.Rewire.{Wires, to-literal, to-and, standIn, redirected, rootGates, rewiredGate, rewiredNet, rewired}
 use Rattle.replacement.proofs.NetPieces.{GateOver, pieces-length, pieces-hold}
 
 -- ---- by kind
@@ -37,6 +37,11 @@ module _ (root : ℕ) (p : Proposal) where
   pub redirected-other : (l : ℕ) → ¬ (varOf l ≡ root) → redirected root p l ≡ l
   unfolding redirected
   redirected-other l n = rw (ne-eqb (varOf l) root n)
+
+  -- a proposal of another kind than 0 is an AND
+  pub and-kind : Wires root p → ¬ (p .kind ≡ 0) → (p .kind ≡ 1) × (p .turned ≤ 1)
+  and-kind (to-literal k l s) n = absurd (n k)
+  and-kind (to-and k l m t) n = (k, t)
 
 -- ---- the gates
 
@@ -60,6 +65,12 @@ module _ (net : Net) (root : ℕ) (p : Proposal) where
   unfolding rewiredNet
   rewired-free = refl
 
+  pub old-gate : (v : ℕ) → IsGate (rewiredNet net root p) v → IsGate net v
+  old-gate v i =
+      let a = i .above in
+      let b = i .within in
+      record { above = omega (arith, rewired-free); within = omega (arith, rewired-free, rewired-size) }
+
   module _ (v : ℕ) (i : IsGate net v) where
     words : (a b : ℕ) → rewiredGate net root p v ≡ largerFirst a b → GateOver (rewiredNet net root p) v a b
     unfolding rewiredNet
@@ -77,28 +88,23 @@ module _ (net : Net) (root : ℕ) (p : Proposal) where
     unfolding rewiredGate rootGates
     and-root e k = words _ _ (rw (eq-eqb v root e, k))
 
--- ---- what rewiring asks of a proposal: that its literals lie below the root
-
-pub data Wires (root : ℕ) (p : Proposal) : Type 0 where
-  to-literal : p .kind ≡ 0 → varOf (p .first .0) < root → p .second .0 ≡ 0 → Wires root p
-  to-and : p .kind ≡ 1 → varOf (p .first .0) < root → varOf (p .second .0) < root → p .turned ≤ 1 → Wires root p
-
 pub wires-of : (net : Net) (root : ℕ) (w : Leaves) (p : Proposal) → AllowedByTest net root w p → Wires root p
 wires-of net root w p (a-literal k d s t) = to-literal k (d .below-root) s
 wires-of net root w p (an-and k d d′ z l t) = to-and k (d .below-root) (d′ .below-root) t
 
 -- ---- the rules hold: a reference to the root becomes one to the root or below it
 
-module _ (g : Graph) (ok : Lawful g) (root : ℕ) (gate : IsGate (g .net) root) (p : Proposal) (wires : Wires root p) where
+module _ (root : ℕ) (p : Proposal) where
   stand-in-low : Wires root p → varOf (standIn root p) ≤ root
   stand-in-low (to-literal k l s) = omega (arith, literal-stands root p k)
   stand-in-low (to-and k l m t) = omega (arith, root-stands root p k)
 
-  redirected-low : (l v : ℕ) → l < 2 * v → redirected root p l < 2 * v
-  redirected-low l v h = ⊎-elim
+  pub redirected-low : Wires root p → (l v : ℕ) → l < 2 * v → redirected root p l < 2 * v
+  redirected-low wires l v h = ⊎-elim
       (λ e. let s = stand-in-low wires in omega (arith, redirected-root root p l e))
       (λ n. omega (arith, redirected-other root p l n)) (equal-or-not (varOf l) root)
 
+module _ (g : Graph) (ok : Lawful g) (root : ℕ) (gate : IsGate (g .net) root) (p : Proposal) (wires : Wires root p) where
   abbrev InOrder : ℕ → Type 0
   InOrder v =
       (second (rewiredNet (g .net) root p) v ≤ first (rewiredNet (g .net) root p) v) × (first (rewiredNet (g .net) root p) v < 2 * v)
@@ -113,37 +119,29 @@ module _ (g : Graph) (ok : Lawful g) (root : ℕ) (gate : IsGate (g .net) root) 
   root-in-order (to-and k l m t) v i e =
       held-in-order v (p .first .0) (p .second .0) i (omega arith) (omega arith) (and-root (g .net) root p v i e k)
 
-  in-order : (v : ℕ) → IsGate (g .net) v → InOrder v
+  pub in-order : (v : ℕ) → IsGate (g .net) v → InOrder v
   in-order v i = ⊎-elim
       (root-in-order wires v i)
       (λ n.
       let b = ok .below v i in let o = ok .ordered v i in
       held-in-order v (redirected root p (first (g .net) v)) (redirected root p (second (g .net) v)) i
-      (redirected-low (first (g .net) v) v b) (redirected-low (second (g .net) v) v (omega arith)) (other-gate (g .net) root p v i n))
+      (redirected-low root p wires (first (g .net) v) v b) (redirected-low root p wires (second (g .net) v) v (omega arith))
+      (other-gate (g .net) root p v i n))
       (equal-or-not v root)
-
-  old-gate : (v : ℕ) → IsGate (rewired g root p .net) v → IsGate (g .net) v
-  unfolding rewired
-  old-gate v i =
-      record {
-        above = let a = i .above in omega (arith, rewired-free (g .net) root p);
-        within = let b = i .within in omega
-            (arith, rewired-free (g .net) root p, rewired-size (g .net) root p);
-      }
 
   sink-at : (j : ℕ) → j < length (sinks g) → getD (sinks (rewired g root p)) j 0 ≤ 2 * last (g .net) + 1
   unfolding rewired
   sink-at j h =
       let b = ok .sinks-within j h in
       let t = gate .within in
-      let m = redirected-low (getD (sinks g) j 0) (suc (last (g .net))) (omega arith) in
+      let m = redirected-low root p wires (getD (sinks g) j 0) (suc (last (g .net))) (omega arith) in
       omega (arith, map-at (redirected root p) 0 0 (sinks g) j h)
 
   pub rewired-lawful : Lawful (rewired g root p)
   rewired-lawful = record {
     even = unfold rewired in omega (arith, rewired-length (g .net) root p);
-    ordered = λ v i. unfold rewired in in-order v (old-gate v i) .0;
-    below = λ v i. unfold rewired in in-order v (old-gate v i) .1;
+    ordered = λ v i. unfold rewired in in-order v (old-gate (g .net) root p v i) .0;
+    below = λ v i. unfold rewired in in-order v (old-gate (g .net) root p v i) .1;
     sinks-within =
         λ j h. unfold rewired in
         omega (

@@ -16,7 +16,7 @@ use Rattle.graph.proofs.Marks.{Marked, each-length, each-keeps, each-marks, eac
 use Rattle.graph.proofs.Use.{down-keeps, down-closed, marked-reached, reached-marked}
 use Rattle.replacement.specs.declared.types.Proposal.{Proposal}
 use Rattle.replacement.specs.Proposal.{literal}
-use Rattle.replacement.specs.Rewire.{rewired}
+use Rattle.replacement.specs.Rewire.{Wires, to-literal, to-and, rewired}
 use Rattle.replacement.specs.Vanish.{
   Without,
   by-output,
@@ -31,7 +31,7 @@ use Rattle.replacement.specs.Vanish.{
   vanishing,
   heldBack,
 }
-use Rattle.replacement.proofs.Rewire.{rewired-size, rewired-free, Wires, to-literal, to-and, rewired-lawful}
+use Rattle.replacement.proofs.Rewire.{rewired-size, rewired-free, rewired-lawful}
 use Rattle.replacement.proofs.Reach.{
   Named,
   named-either,

@@ -20,32 +20,36 @@ literal l = record { kind = 0; first = record { 0 = l }; second = record { 0 = 0
 abbrev pub andGate : ℕ → ℕ → ℕ → Proposal
 andGate a b c = record { kind = 1; first = record { 0 = a }; second = record { 0 = b }; turned = c }
 
--- the literal's variable is covered and below the root
-unfoldable pub divides : Net → ℕ → Leaves → ℕ → Bool
-unfolding covered
-divides net root w l = ltb (varOf l) root && covered net w (varOf l)
+-- where cov tests which variables are covered: the literal's variable is, and it is below the root
+unfoldable pub divides : (ℕ → Bool) → ℕ → ℕ → Bool
+divides cov root l = ltb (varOf l) root && cov (varOf l)
 
 -- kind 0: such a literal, variable 0 included; second and turned are 0
-unfoldable pub literalRules : Net → ℕ → Leaves → Proposal → List Bool
+unfoldable pub literalRules : (ℕ → Bool) → ℕ → Proposal → List Bool
 unfolding divides
-literalRules net root w p = divides net root w (p .first .0) ∷ eqb (p .second .0) 0 ∷ eqb (p .turned) 0 ∷ []
+literalRules cov root p = divides cov root (p .first .0) ∷ eqb (p .second .0) 0 ∷ eqb (p .turned) 0 ∷ []
 
 -- kind 1: two such literals, both variables at least 1, the second's below the first's; turned is 0 or 1
-unfoldable pub andRules : Net → ℕ → Leaves → Proposal → List Bool
+unfoldable pub andRules : (ℕ → Bool) → ℕ → Proposal → List Bool
 unfolding divides
-andRules net root w p =
-    divides net root w (p .first .0)
-    ∷ divides net root w (p .second .0)
+andRules cov root p =
+    divides cov root (p .first .0)
+    ∷ divides cov root (p .second .0)
     ∷ ltb 0 (varOf (p .second .0))
     ∷ ltb (varOf (p .second .0)) (varOf (p .first .0))
     ∷ leb (p .turned) 1
     ∷ []
 
 -- the proposal keeps the rule of its kind; there are no other kinds
-unfoldable pub allowed : Net → ℕ → Leaves → Proposal → Bool
+unfoldable pub keepsRule : (ℕ → Bool) → ℕ → Proposal → Bool
 unfolding every literalRules andRules
-allowed net root w p =
-    cond (eqb (p .kind) 0) (every (literalRules net root w p)) (cond (eqb (p .kind) 1) (every (andRules net root w p)) false)
+keepsRule cov root p =
+    cond (eqb (p .kind) 0) (every (literalRules cov root p)) (cond (eqb (p .kind) 1) (every (andRules cov root p)) false)
+
+-- over these leaves
+unfoldable pub allowed : Net → ℕ → Leaves → Proposal → Bool
+unfolding keepsRule covered
+allowed net root w p = keepsRule (covered net w) root p
 
 -- the same as facts, where Cov says which variables are covered: those that pass the test (`Tested`), or those that are (`Covered`)
 pub record Divides (Cov : ℕ → Type 0) (root l : ℕ) : Type 0 where

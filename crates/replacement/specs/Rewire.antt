@@ -1,6 +1,7 @@
 -- What a proposal makes of the graph, and its gain.
 -- Assumes nothing.
-use Prim.Native.Nat.{ℕ, suc, _+_, _*_}
+use Prim.Native.Nat.{ℕ, suc, _+_, _*_, _≤_, _<_}
+use mathlib.Core.Path.{_≡_}
 use mathlib.Core.Bool.{Bool, false, cond}
 use mathlib.Core.List.{List}
 use lib.Dec.{ltb, eqb}
@@ -11,6 +12,11 @@ use Rattle.graph.specs.Graph.{Net, Graph, netOf, overNet, free, size, first, se
 use Rattle.graph.specs.Use.{usedGates}
 use Rattle.graph.specs.Drop.{dropped}
 use Rattle.replacement.specs.declared.types.Proposal.{Proposal}
+
+-- what rewiring asks of a proposal: that its literals lie below the root
+pub data Wires (root : ℕ) (p : Proposal) : Type 0 where
+  to-literal : p .kind ≡ 0 → varOf (p .first .0) < root → p .second .0 ≡ 0 → Wires root p
+  to-and : p .kind ≡ 1 → varOf (p .first .0) < root → varOf (p .second .0) < root → p .turned ≤ 1 → Wires root p
 
 -- what a plain reference to the root becomes: in kind 0 the literal, in kind 1 the root, complemented where turned
 unfoldable pub standIn : ℕ → Proposal → ℕ
@@ -54,3 +60,8 @@ gain g root p = subℕ (usedGates g) (usedGates (finished g root p))
 unfoldable pub atLeastOne : ℤ → Bool
 atLeastOne (pos n) = ltb 0 n
 atLeastOne (negsuc n) = false
+
+-- the gain, or 0 where it is negative
+unfoldable pub positive : ℤ → ℕ
+positive (pos n) = n
+positive (negsuc n) = 0

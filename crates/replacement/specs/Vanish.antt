@@ -2,13 +2,14 @@
 -- Assumes nothing.
 use Prim.Native.Nat.{ℕ, zero, suc, _+_, _-_, _<_}
 use mathlib.Core.Path.{_≡_}
-use mathlib.Core.Bool.{Bool, false, cond}
+use mathlib.Core.Bool.{Bool, true, false, cond}
 use mathlib.Core.List.{List, [], _∷_, map}
+use mathlib.Core.Logic.{_↔_}
 use lib.Dec.{eqb}
 use lib.ListN.{length, getD, replicate}
 use Rattle.graph.specs.Literal.{varOf}
-use Rattle.graph.specs.Graph.{Net, Graph, free, size, last, sinks, first, second, IsGate}
-use Rattle.graph.specs.Use.{Reached, markEach, markDown, marks}
+use Rattle.graph.specs.Graph.{Net, Graph, free, size, last, sinks, first, second, IsGate, Lawful}
+use Rattle.graph.specs.Use.{Reached, InUse, markEach, markDown, marks}
 use Rattle.replacement.specs.declared.types.Proposal.{Proposal}
 
 -- reached through no reference to the root
@@ -69,3 +70,21 @@ vanishing g root = countApart (g .net) (marks g) (marksWithout g root) (size (g 
 unfoldable pub heldBack : Graph → ℕ → Proposal → ℕ
 unfolding countApart marksBeside marksWithout
 heldBack g root p = countApart (g .net) (marksBeside g root p) (marksWithout g root) (size (g .net))
+
+-- ---- the same by marks that lent memory holds
+
+-- each gate's mark says whether it is reached through no reference to the root
+pub record MarksPast (g : Graph) (root : ℕ) (ms : List Bool) : Type 0 where
+  pub marks-are : (v : ℕ) → IsGate (g .net) v → (getD ms v false ≡ true) ↔ Without g root v
+
+-- how many gates without a mark these literals reach
+unfoldable pub heldFrom : Net → List Bool → List ℕ → ℕ
+unfolding countApart marks
+heldFrom net ms ls = countApart net (marks (record { net = net; outputs = ls })) ms (size net)
+
+-- a root in use, its marks, and how many gates go with it: what the gain of a proposal is found from (`weighed-gain`)
+pub record Weighed (g : Graph) (root : ℕ) (ms : List Bool) (going : ℕ) : Type 0 where
+  pub lawful : Lawful g
+  pub used : InUse g root
+  pub past : MarksPast g root ms
+  pub going-is : going ≡ vanishing g root

@@ -1,4 +1,6 @@
 // A proposal, and what applying it answers.
+ghost use mathlib.Core.Path.{_≡_};
+ghost use Rattle.replacement.specs.Vanish.{newGates};
 use graph::Lit;
 use graph::Refusal;
 
@@ -8,6 +10,18 @@ pub struct Proposal {
     pub first: Lit,
     pub second: Lit,
     pub turned: u32,
+}
+
+impl Proposal {
+    // How many gates it puts at the root.
+    pub fn new_gates(self) -> usize
+        ensures { λ r. ⌜ r ≡ newGates self ⌝ }
+    {
+        if self.kind == 0 {
+            return 0;
+        }
+        1
+    }
 }
 
 // What applying a proposal answers: the counts of the finished graph, or why it is refused.

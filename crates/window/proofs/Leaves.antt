@@ -71,7 +71,7 @@ pub leaves-of-list : (xs : List ℕ) → leafList (leavesOf xs) ≡ xs
 unfolding leavesOf
 leaves-of-list xs = ap (take (length xs)) (numbers-back (filled leafLimit xs)) ∙ filled-first leafLimit xs
 
-replicate-at : {A : Type 0} (d : A) (n j : ℕ) → getD (replicate n d) j d ≡ d
+pub replicate-at : {A : Type 0} (d : A) (n j : ℕ) → getD (replicate n d) j d ≡ d
 replicate-at d zero j = refl
 replicate-at d (suc n) zero = refl
 replicate-at d (suc n) (suc j) = replicate-at d n j

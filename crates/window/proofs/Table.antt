@@ -14,7 +14,7 @@ use lib.Pow.{pow-mono}
 use lib.ListN.{getD, List·getD-map}
 use Rattle.graph.specs.Graph.{Net}
 use Rattle.graph.specs.Sweep.{Algebra, bools, values}
-use Rattle.graph.proofs.Sweep.{values-map, values-at}
+use Rattle.graph.proofs.Sweep.{Respects, values-map, values-at}
 use Rattle.window.specs.declared.leaf_set.Leaves.{Leaves}
 use Rattle.window.specs.Leaves.{leafPlace}
 use Rattle.window.specs.Local.{leafOwn, localUpTo, localAt}
@@ -61,31 +61,39 @@ leaf-pattern (suc (suc (suc (suc (suc (suc j)))))) =
     pack-ext patterns (λ i. bit i (suc (suc (suc (suc (suc (suc j))))))) (λ i. false) (λ i h. high-bit i _ h (omega arith))
 
 -- between the two stands a kind whose values are functions of the pattern's number
-byPattern : Algebra (ℕ → Bool)
+pub byPattern : Algebra (ℕ → Bool)
 byPattern = record { no = λ i. false; conj = λ x y i. x i && y i; neg = λ x i. not (x i) }
 
-functions : Net → Leaves → ℕ → List (ℕ → Bool)
+pub functions : Net → Leaves → ℕ → List (ℕ → Bool)
 functions net w n = values byPattern (leafOwn w (λ j i. bit i j)) net n
 
 own-map : {A B : Type 0} (h : A → B) (w : Leaves) (a : ℕ → A) (v : ℕ) → Option·map h (leafOwn w a v) ≡ leafOwn w (λ j. h (a j)) v
 unfolding leafOwn
 own-map h w a v = map-map h a (leafPlace w v)
 
-functions-at : (net : Net) (w : Leaves) (n i : ℕ) → map (λ (f : ℕ → Bool). f i) (functions net w n) ≡ localUpTo net w (bit i) n
-unfolding functions localUpTo byPattern bools
+pub at-pattern : (i : ℕ) → Respects (λ (f : ℕ → Bool). f i) byPattern bools
+unfolding byPattern bools
+at-pattern i = record { keeps-no = refl; keeps-conj = λ x y. refl; keeps-neg = λ x. refl }
+
+pub functions-at : (net : Net) (w : Leaves) (n i : ℕ) → map (λ (f : ℕ → Bool). f i) (functions net w n) ≡ localUpTo net w (bit i) n
+unfolding functions localUpTo
 functions-at net w n i =
-    values-map (λ f. f i) byPattern bools (record { keeps-no = refl; keeps-conj = λ x y. refl; keeps-neg = λ x. refl })
+    values-map (λ f. f i) byPattern bools (at-pattern i)
     (leafOwn w (λ j i. bit i j)) (leafOwn w (bit i)) (own-map (λ f. f i) w (λ j i. bit i j)) net n
 
 pack-none : pack patterns (λ i. false) ≡ 0
 unfolding pack
 pack-none = refl
 
-functions-packed : (net : Net) (w : Leaves) (n : ℕ) → map (pack patterns) (functions net w n) ≡ wordsUpTo net w n
-unfolding functions wordsUpTo byPattern words
+pub by-packing : Respects (pack patterns) byPattern words
+unfolding byPattern words
+by-packing =
+    record { keeps-no = pack-none; keeps-conj = λ x y. sym (pack-and patterns x y); keeps-neg = λ x. sym (pack-not patterns x) }
+
+pub functions-packed : (net : Net) (w : Leaves) (n : ℕ) → map (pack patterns) (functions net w n) ≡ wordsUpTo net w n
+unfolding functions wordsUpTo
 functions-packed net w n =
-    values-map (pack patterns) byPattern words
-    (record { keeps-no = pack-none; keeps-conj = λ x y. sym (pack-and patterns x y); keeps-neg = λ x. sym (pack-not patterns x) })
+    values-map (pack patterns) byPattern words by-packing
     (leafOwn w (λ j i. bit i j)) (leafOwn w leafPattern)
     (λ v. own-map (pack patterns) w (λ j i. bit i j) v ∙ ap (λ (a : ℕ → ℕ). leafOwn w a v) (fun-ext leaf-pattern)) net n
 

@@ -66,13 +66,13 @@ mark-after-requires : tie.Need-mark-after-requires
 mark-after-requires c κs =
     let m = c .before .before .before in
     let s = start-of m in
-    (net-well-formed (graph s) (s .pre), omega (arith, c .before .at3 .ensures), omega (arith, marks-length (m .mark-each .last .1 .0)))
+    (net-well-formed (graph s) (s .pre), omega (arith, c .before .at3 .ensures), omega arith, omega (arith, marks-length (m .mark-each .last .1 .0)))
 
 slice-aggregate-has-mark : tie.Need-slice-aggregate-has-mark
 slice-aggregate-has-mark c = search needs
 
 has-mark-requires : tie.Need-has-mark-requires
-has-mark-requires c κs = omega (arith, marks-length (c .before .before .mark-after .last .1 .1 .1 .0))
+has-mark-requires c κs = omega (arith, marks-length (c .before .before .mark-after .last .1 .1 .1 .1 .0))
 
 returns-3 : tie.Need-returns-3
 returns-3 c =

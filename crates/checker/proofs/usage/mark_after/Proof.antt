@@ -1,4 +1,4 @@
--- `checker::usage::mark_after` meets its contract: going on below `next` leads to where going down from the highest gate does.
+-- `checker::usage::mark_after` meets its contract: going on below `next` leads to where going down from the first of them does.
 -- Assumes nothing.
 use mathlib.Core.Path.{_≡_, refl, sym, ap, _∙_}
 use Prim.Native.Nat.{_-_, _≤_}
@@ -13,15 +13,15 @@ use Rattle.checker.proofs.usage.mark_after.Statement.{statement}
 use Rattle.checker.proofs.usage.mark_after.Tie as tie
 
 abbrev Inv-loop : tie.InvT-loop
-Inv-loop inputs gates k marks₀ next₀ marks next =
+Inv-loop inputs gates from k marks₀ next₀ marks next =
     let net = netOf inputs gates in
     (k ≤ next)
     × (next ≤ size net)
     × (length marks ≡ length marks₀)
-    × (markAfter net k (next - k) (marksIn marks) ≡ markAfter net k (size net - k) (marksIn marks₀))
+    × (markAfter net k (next - k) (marksIn marks) ≡ markAfter net k (from - k) (marksIn marks₀))
 
 abbrev μ-loop : tie.MeasureT-loop
-μ-loop inputs gates k marks₀ next₀ marks next = next
+μ-loop inputs gates from k marks₀ next₀ marks next = next
 
 loop-holds : tie.Need-loop-holds Inv-loop μ-loop
 loop-holds c = (search needs, search needs, refl, refl)

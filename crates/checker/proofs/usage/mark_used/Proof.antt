@@ -30,7 +30,7 @@ mark-after-requires c κs =
     let m = c .before .before .before in
     let s = m .before .before .before .before .before in
     let long = ap length (m .mark-each .ensures) ∙ each-length (now (s .args .outputs)) (marksIn (now (s .args .marks))) in
-    (net-well-formed (graph s) (s .pre .0 .0), omega arith, omega (arith, long, s .pre .0 .1))
+    (net-well-formed (graph s) (s .pre .0 .0), omega arith, omega arith, omega (arith, long, s .pre .0 .1))
 
 same-length : tie.Need-same-length
 same-length c = search needs
