@@ -1,0 +1,4 @@
+pub mod PastRoot
+pub mod Steps
+pub mod Walk
+pub mod Weighing

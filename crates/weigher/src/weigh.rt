@@ -1,0 +1,52 @@
+// The gain of a proposal, by the marks past its root.
+ghost use mathlib.Core.Path.{_≡_};
+ghost use Prim.Native.Nat.{suc, _<_, _≤_};
+ghost use lib.ListN.{length};
+ghost use Rattle.graph.specs.Literal.{varOf};
+ghost use Rattle.graph.specs.Graph.{netOf, size, last, WellFormedNet, IsGate};
+ghost use Rattle.checker.specs.Marks.{marksIn};
+ghost use Rattle.weigher.specs.Weighing.{GoingWith, Gains};
+use crate::held::held_back;
+use graph::Lit;
+use graph::Var;
+use replacement::Proposal;
+
+// How many gates go with the root, itself included, where the marks are those past it: what it reaches without a mark.
+pub fn going_with(
+    inputs: usize,
+    gates: &[u32],
+    root: Var,
+    marks: &mut [bool],
+    list: &mut [u32],
+) -> usize
+    requires { ⌜ WellFormedNet (netOf inputs (now gates)) × IsGate (netOf inputs (now gates)) (root .0) ⌝ }
+    requires { ⌜ (last (netOf inputs (now gates)) < length (marksIn (now marks)))
+        × (suc (size (netOf inputs (now gates))) < length (now list)) ⌝ }
+    ensures { λ r. ⌜ GoingWith (netOf inputs (now (gates .entry))) (marksIn (now (marks .entry))) (root .0) r ⌝ }
+    ensures { λ _. ⌜ marksIn (now (marks .exit)) ≡ marksIn (now (marks .entry)) ⌝ }
+{
+    held_back(inputs, gates, root.plain(), Lit(0), marks, list)
+}
+
+// What the proposal gains at a root past which the marks are and with which so many gates go; 0 where that is negative.
+pub fn gain(
+    inputs: usize,
+    gates: &[u32],
+    going: usize,
+    proposal: Proposal,
+    marks: &mut [bool],
+    list: &mut [u32],
+) -> usize
+    requires { ⌜ WellFormedNet (netOf inputs (now gates)) × (last (netOf inputs (now gates)) < length (marksIn (now marks)))
+        × (suc (size (netOf inputs (now gates))) < length (now list)) ⌝ }
+    requires { ⌜ (varOf (proposal .first .0) ≤ last (netOf inputs (now gates)))
+        × (varOf (proposal .second .0) ≤ last (netOf inputs (now gates))) ⌝ }
+    ensures { λ r. ⌜ Gains (netOf inputs (now (gates .entry))) (marksIn (now (marks .entry))) going proposal r ⌝ }
+    ensures { λ _. ⌜ marksIn (now (marks .exit)) ≡ marksIn (now (marks .entry)) ⌝ }
+{
+    let held = held_back(inputs, gates, proposal.first, proposal.second, marks, list);
+    if going <= held {
+        return 0;
+    }
+    going - held - proposal.new_gates()
+}
