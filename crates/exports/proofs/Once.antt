@@ -5,6 +5,7 @@ use mathlib.Core.List.{List, [], _∷_}
 use Prim.Native.Nat.{ℕ}
 use Rattle.graph.specs.Lent.{Buffers, buffersOf}
 use Rattle.window.specs.declared.leaf_set.Leaves.{Leaves}
+use Rattle.replacement.specs.declared.types.Proposal.{Proposal}
 use Rattle.exports.specs.Exported.{
   reads,
   readNumbers,
@@ -14,6 +15,8 @@ use Rattle.exports.specs.Exported.{
   evaluatedNumbers,
   pickedNumbers,
   tableNumbers,
+  applies,
+  appliedNumbers,
   noLists,
   Told,
 }
@@ -59,3 +62,15 @@ module _ (inputs : ℕ) (gates outputs : List ℕ) (root : ℕ) (before : List �
       → Told (tableNumbers inputs gates outputs root w) noLists before r′ (bits′ ∷ []) noLists
       → (r ≡ r′) × (bits ≡ bits′)
   table-numbers-have-one-result w r bits r′ bits′ p q = (cc, cc)
+
+module _ (inputs : ℕ) (gates outputs : List ℕ) (root : ℕ) (w : Leaves) (p : Proposal) (words results before : List ℕ) where
+  -- r is the number, a and o are the counts, gs and os are the lent lists
+  pub apply-numbers-have-one-result : (r a o : ℕ) (gs os : List ℕ) (r′ a′ o′ : ℕ) (gs′ os′ : List ℕ)
+      → Told (appliedNumbers inputs gates outputs root w p words results) ((applies inputs gates outputs root w p words results) .lent) before
+      r (a ∷ o ∷ []) (buffersOf gs os)
+      → Told (appliedNumbers inputs gates outputs root w p words results) ((applies inputs gates outputs root w p words results) .lent) before
+      r′ (a′ ∷ o′ ∷ []) (buffersOf gs′ os′)
+      → (r ≡ r′) × (a ≡ a′) × (o ≡ o′) × (gs ≡ gs′) × (os ≡ os′)
+  apply-numbers-have-one-result r a o gs os r′ a′ o′ gs′ os′ m n =
+      let lists = m .lists ∙ sym (n .lists) in
+      (cc, cc, cc, ap (λ (b : Buffers). b .gates) lists, ap (λ (b : Buffers). b .outputs) lists)

@@ -14,6 +14,9 @@ use Rattle.text.specs.Calls.{readEffect, readOutcome, writeEffect, writtenOutco
 use Rattle.window.specs.declared.leaf_set.Leaves.{Leaves}
 use Rattle.window.specs.Leaves.{variables}
 use Rattle.window.specs.Calls.{pickAnswer, pickOutcome, tableAnswer, tableOutcome}
+use Rattle.replacement.specs.declared.types.Proposal.{Proposal}
+use Rattle.replacement.specs.declared.types.Applied.{Applied}
+use Rattle.replacement.specs.Calls.{applyEffect, appliedOutcome}
 
 abbrev pub reads : List ℕ → List ℕ → List ℕ → Effect ReadText Buffers
 reads text gates outputs = readEffect text (buffersOf gates outputs)
@@ -42,6 +45,18 @@ leavesAt n places = record { count = n; places = variables places }
 
 abbrev pub tableNumbers : ℕ → List ℕ → List ℕ → ℕ → Leaves → Outcome
 tableNumbers inputs gates outputs root w = tableOutcome (tableAnswer (graphOf inputs gates outputs) root w)
+
+-- a proposal by its four numbers
+abbrev pub proposalBy : ℕ → ℕ → ℕ → ℕ → Proposal
+proposalBy kind first second turned =
+    record { kind = kind; first = record { 0 = first }; second = record { 0 = second }; turned = turned }
+
+abbrev pub applies : ℕ → List ℕ → List ℕ → ℕ → Leaves → Proposal → List ℕ → List ℕ → Effect Applied Buffers
+applies inputs gates outputs root w p words results = applyEffect (graphOf inputs gates outputs) root w p (buffersOf words results)
+
+abbrev pub appliedNumbers : ℕ → List ℕ → List ℕ → ℕ → Leaves → Proposal → List ℕ → List ℕ → Outcome
+appliedNumbers inputs gates outputs root w p words results =
+    appliedOutcome ((applies inputs gates outputs root w p words results) .answer)
 
 -- what is left in lent lists where none is lent
 abbrev pub noLists : List ℕ

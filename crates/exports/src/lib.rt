@@ -1,5 +1,6 @@
 // The public calls for programs in other languages, on numbers and slices. Each answers document 01's number, which is 0 where the
 // call is accepted; what else it answers goes through references, which a refusal leaves as they were.
+ghost use mathlib.Core.Path.{_≡_};
 ghost use mathlib.Core.List.{[], _∷_};
 ghost use Rattle.graph.specs.Lent.{buffersOf};
 ghost use Rattle.exports.specs.Exported.{
@@ -13,11 +14,17 @@ ghost use Rattle.exports.specs.Exported.{
   leavesAt,
   noLists,
   tableNumbers,
+  proposalBy,
+  applies,
+  appliedNumbers,
   Told,
 };
 use graph::Evaluated;
+use graph::Lit;
 use graph::Var;
 use graph::Verdict;
+use replacement::Applied;
+use replacement::Proposal;
 use text::ReadText;
 use text::WrittenText;
 use window::Leaves;
@@ -135,6 +142,17 @@ pub extern "C" fn nenquilco_pick(
     }
 }
 
+// n leaves in the six places a to f.
+fn leaves_at(n: usize, a: u32, b: u32, c: u32, d: u32, e: u32, f: u32) -> Leaves
+    ensures { λ r. ⌜ r ≡ leavesAt n (a ∷ b ∷ c ∷ d ∷ e ∷ f ∷ []) ⌝ }
+{
+    let places = [Var(a), Var(b), Var(c), Var(d), Var(e), Var(f)];
+    Leaves {
+        count: n,
+        places: places,
+    }
+}
+
 // Asks for a root's table over n leaves in the six places a to f; bits gets its 64 bits.
 #[no_mangle]
 pub extern "C" fn nenquilco_table(
@@ -155,17 +173,73 @@ pub extern "C" fn nenquilco_table(
         (tableNumbers inputs (now (gates .entry)) (now (outputs .entry)) root (leavesAt n (a ∷ b ∷ c ∷ d ∷ e ∷ f ∷ []))) noLists
         (now (bits .entry) ∷ []) r (now (bits .exit) ∷ []) noLists ⌝ }
 {
-    let places = [Var(a), Var(b), Var(c), Var(d), Var(e), Var(f)];
-    let leaves = Leaves {
-        count: n,
-        places: places,
-    };
+    let leaves = leaves_at(n, a, b, c, d, e, f);
     let asked = cutter::table(inputs, gates, outputs, Var(root), leaves);
     let verdict = asked.verdict;
     match verdict {
         Verdict::Refused(refusal) => refusal.number(),
         Verdict::Fine => {
             *bits = asked.table.0;
+            0
+        }
+    }
+}
+
+// Applies a proposal at a root over n leaves in the six places a to f; x and y get the finished graph's counts of gates and outputs.
+#[no_mangle]
+pub extern "C" fn nenquilco_apply(
+    inputs: usize,
+    gates: &[u32],
+    outputs: &[u32],
+    root: u32,
+    n: usize,
+    a: u32,
+    b: u32,
+    c: u32,
+    d: u32,
+    e: u32,
+    f: u32,
+    kind: u32,
+    first: u32,
+    second: u32,
+    turned: u32,
+    words: &mut [u32],
+    results: &mut [u32],
+    x: &mut usize,
+    y: &mut usize,
+) -> u32
+    ensures { λ r. ⌜ Told
+        (appliedNumbers inputs (now (gates .entry)) (now (outputs .entry)) root (leavesAt n (a ∷ b ∷ c ∷ d ∷ e ∷ f ∷ []))
+        (proposalBy kind first second turned) (now (words .entry)) (now (results .entry)))
+        ((applies inputs (now (gates .entry)) (now (outputs .entry)) root (leavesAt n (a ∷ b ∷ c ∷ d ∷ e ∷ f ∷ []))
+        (proposalBy kind first second turned) (now (words .entry)) (now (results .entry))) .lent)
+        (now (x .entry) ∷ now (y .entry) ∷ []) r
+        (now (x .exit) ∷ now (y .exit) ∷ []) (buffersOf (now (words .exit)) (now (results .exit))) ⌝ }
+{
+    let leaves = leaves_at(n, a, b, c, d, e, f);
+    let proposal = Proposal {
+        kind: kind,
+        first: Lit(first),
+        second: Lit(second),
+        turned: turned,
+    };
+    match replacer::apply(
+        inputs,
+        gates,
+        outputs,
+        Var(root),
+        leaves,
+        proposal,
+        words,
+        results,
+    ) {
+        Applied::Refused(refusal) => refusal.number(),
+        Applied::Graph {
+            gates: gate_count,
+            outputs: output_count,
+        } => {
+            *x = gate_count;
+            *y = output_count;
             0
         }
     }

@@ -3,14 +3,14 @@
 -- Assumes nothing.
 use mathlib.Core.Path.{_≡_, sym, ap, _∙_, subst⁻¹}
 use mathlib.Core.List.{List}
-use Prim.Native.Nat.{ℕ, _≤_}
+use Prim.Native.Nat.{ℕ, _*_, _≤_, _<_}
 use native.Mathlib.Omega.{arith}
 use lib.ListN.{length, take, length-take}
 use Rattle.graph.specs.declared.refusal.Refusal.{Refusal}
 use Rattle.graph.specs.declared.evaluated.Evaluated.{Evaluated}
-use Rattle.graph.specs.Graph.{Graph, sinks, WellFormed}
+use Rattle.graph.specs.Graph.{Graph, graphOf, size, sinks, WellFormed}
 use Rattle.graph.specs.Evaluate.{Assignment, evaluateEffect}
-use Rattle.graph.specs.Use.{InUse}
+use Rattle.graph.specs.Use.{InUse, usedGates}
 use Rattle.graph.specs.Lent.{Buffers, RoomFor, Effect, _leaving_}
 use Rattle.text.specs.declared.ReadText.{ReadText}
 use Rattle.text.specs.declared.WrittenText.{WrittenText}
@@ -23,15 +23,20 @@ use Rattle.window.specs.declared.leaf_set.Leaves.{Leaves}
 use Rattle.window.specs.declared.answers.Picked.{Picked}
 use Rattle.window.specs.declared.answers.RootTable.{RootTable}
 use Rattle.window.specs.Calls.{pickAnswer, Window, tableAnswer}
-use Rattle.promises.specs.Promises.{ReadAs, EvaluatedAs, PickedAs, TableAs, readBack}
+use Rattle.replacement.specs.declared.types.Proposal.{Proposal}
+use Rattle.replacement.specs.declared.types.Applied.{Applied}
+use Rattle.replacement.specs.Rewire.{finished}
+use Rattle.replacement.specs.Calls.{GoodProposal, applyEffect, appliedOutcome}
+use Rattle.promises.specs.Promises.{Keeps, Holds, ReadAs, EvaluatedAs, PickedAs, TableAs, AppliedAs, readBack, graphIn}
 use Rattle.promises.proofs.Granted.{
   stated-text-is-read,
   writing-has-no-refusal,
   assignment-is-evaluated,
   gate-in-use-has-leaves,
   window-has-its-table,
+  good-is-applied,
 }
-use Rattle.promises.proofs.Accepted.{read-stores-stated, write-stores-text, write-then-read}
+use Rattle.promises.proofs.Accepted.{read-stores-stated, write-stores-text, write-then-read, apply-stores-finished}
 
 -- ---- one result
 
@@ -59,6 +64,11 @@ pub table-has-one-result : (g : Graph) (root : ℕ) (w : Leaves) (t u : RootTabl
     → t ≡ u
 table-has-one-result g root w t u a b = a ∙ sym b
 
+pub apply-has-one-result : (g : Graph) (root : ℕ) (w : Leaves) (p : Proposal) (b : Buffers) (r s : Applied) (x y : Buffers)
+    → r leaving x ≡ applyEffect g root w p b → s leaving y ≡ applyEffect g root w p b
+    → (r ≡ s) × (x ≡ y)
+apply-has-one-result g root w p b = one-effect
+
 -- ---- what evaluating, picking leaves and asking for a table accept
 
 -- r and after are what evaluating g under vs with lent came to
@@ -74,6 +84,56 @@ leaves-were-picked g root p met ok used = subst⁻¹ (PickedAs g root) met (gate
 pub window-was-tabled : (g : Graph) (root : ℕ) (w : Leaves) (t : RootTable) → t ≡ tableAnswer g root w → Window g root w
     → TableAs g root w t
 window-was-tabled g root w t met known = subst⁻¹ (TableAs g root w) met (window-has-its-table g root w known)
+
+-- ---- what applying accepts
+
+counts : Applied → ℕ × ℕ
+counts (Applied.Graph a o) = (a, o)
+counts (Applied.Refused r) = (0, 0)
+
+ap₃ : {A B C D : Type 0} (f : A → B → C → D) {x x′ : A} {y y′ : B} {z z′ : C} → x ≡ x′ → y ≡ y′ → z ≡ z′ → f x y z ≡ f x′ y′ z′
+ap₃ f p q e = rw (p, q, e)
+
+-- r and after are what applying p at the root over w with b lent came to
+module _ (g : Graph) (root : ℕ) (w : Leaves) (p : Proposal) (b after : Buffers) (r : Applied)
+    (met : r leaving after ≡ applyEffect g root w p b) where
+  -- a good proposal is applied, where there is room for the graph that it makes
+  pub good-was-applied : GoodProposal g root w p → RoomFor (finished g root p) b → AppliedAs g (finished g root p) b (r leaving after)
+  good-was-applied good room = subst⁻¹ (AppliedAs g (finished g root p) b) met (good-is-applied g root w p b good room)
+
+  -- and nothing else is
+  module _ (a o : ℕ) (accepted : r ≡ Applied.Graph a o) where
+    applied-number : (appliedOutcome ((applyEffect g root w p b) .answer)) .number ≡ 0
+    unfolding appliedOutcome
+    applied-number = ap (λ (e : Effect Applied Buffers). (appliedOutcome (e .answer)) .number) (sym met) ∙ rw accepted
+
+    pub applied-was-good : GoodProposal g root w p × AppliedAs g (finished g root p) b (r leaving after)
+    applied-was-good =
+        let (good, applied) = apply-stores-finished g root w p b applied-number in
+        (good, subst⁻¹ (AppliedAs g (finished g root p) b) met applied)
+
+    counts-are : (a ≡ size (finished g root p .net)) × (o ≡ length (finished g root p .outputs))
+    unfolding counts
+    counts-are =
+        let same = sym accepted ∙ applied-was-good .1 .counts-told in
+        (ap (λ (x : Applied). counts x .0) same, ap (λ (x : Applied). counts x .1) same)
+
+    -- what the lent lists hold is the finished graph
+    held-is : graphIn (g .net .inputs) a o after ≡ finished g root p
+    held-is =
+        let applied = applied-was-good .1 in
+        let holds = applied .holds in
+        let (gates, outputs) = counts-are in
+        let words : 2 * a ≡ length (finished g root p .net .gates) = omega (arith, gates, holds .gate-words) in
+        ap₃ graphOf (sym (applied .keeps .same-inputs))
+        (ap (λ (n : ℕ). take n (after .gates)) words ∙ holds .gates-stored .first-places)
+        (ap (λ (n : ℕ). take n (after .outputs)) outputs ∙ holds .outputs-stored .first-places)
+
+    pub applied-keeps : let h = graphIn (g .net .inputs) a o after in Keeps g h × (usedGates h < usedGates g) × Holds h b after
+    applied-keeps =
+        let applied = applied-was-good .1 in
+        subst⁻¹ (λ (h : Graph). Keeps g h × (usedGates h < usedGates g) × Holds h b after) held-is
+        (applied .keeps, applied .fewer, applied .holds)
 
 -- ---- what reading accepts
 

@@ -10,7 +10,7 @@ use Rattle.graph.specs.Refuse.{numberOf, Answers}
 use Rattle.graph.specs.Lists.{filled}
 use Rattle.graph.specs.Lent.{Buffers, RoomFor, Effect, _leaving_}
 use Rattle.graph.specs.Literal.{varOf}
-use Rattle.graph.specs.Graph.{Graph, size, first, second, IsGate, WellFormed}
+use Rattle.graph.specs.Graph.{Graph, graphOf, size, first, second, IsGate, WellFormed}
 use Rattle.graph.specs.declared.evaluated.Evaluated.{Evaluated}
 use Rattle.graph.specs.Evaluate.{outputsUnder, assignmentOf, Assignment}
 use Rattle.graph.specs.Use.{InUse, usedGates}
@@ -26,7 +26,10 @@ use Rattle.window.specs.Local.{localAt}
 use Rattle.window.specs.Table.{bit, patterns, table}
 use Rattle.window.specs.LeafRule.{picked}
 use Rattle.window.specs.Calls.{Window}
+use Rattle.replacement.specs.declared.types.Proposal.{Proposal}
 use Rattle.replacement.specs.declared.types.Applied.{Applied}
+use Rattle.replacement.specs.Rewire.{finished}
+use Rattle.replacement.specs.Calls.{GoodProposal}
 use Rattle.listing.specs.declared.Candidate.{Candidate}
 use Rattle.listing.specs.declared.Listed.{Listed}
 use Rattle.run.specs.declared.Ran.{Ran}
@@ -155,6 +158,24 @@ ValuesLeft g vs before r after =
 -- leaves were picked for a root, and its table asked for over them: at a gate in use of a well-formed graph both are accepted
 abbrev pub PickedAndTabled : Graph → ℕ → Picked → RootTable → Type 0
 PickedAndTabled g root p t = WellFormed g → InUse g root → PickedAs g root p × TableAs g root (p .leaves) t
+
+-- the graph that the first words of two lists are: so many inputs, gates and outputs
+abbrev pub graphIn : ℕ → ℕ → ℕ → Buffers → Graph
+graphIn i a o b = graphOf i (take (2 * a) (b .gates)) (take o (b .outputs))
+
+-- a proposal was applied to g, whatever it was: where it was accepted the lent lists hold, in g's place, a graph in which strictly fewer
+-- gates are in use
+abbrev pub AcceptedKeeps : Graph → Buffers → Applied → Buffers → Type 0
+AcceptedKeeps g before r after =
+    (a o : ℕ) → r ≡ Applied.Graph a o
+    → let h = graphIn (g .net .inputs) a o after in
+    Keeps g h × (usedGates h < usedGates g) × Holds h before after
+
+-- and the other way: a good one is accepted where there is room for what it makes
+abbrev pub GoodIsAccepted : Graph → ℕ → Leaves → Proposal → Buffers → Applied → Buffers → Type 0
+GoodIsAccepted g root w p before r after =
+    GoodProposal g root w p → RoomFor (finished g root p) before
+    → AppliedAs g (finished g root p) before (r leaving after)
 
 -- a call was made twice, each time on lent memory of its own: where both held the same before, the answers are the same, and both
 -- hold the same after

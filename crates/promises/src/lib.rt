@@ -6,9 +6,21 @@ ghost use Rattle.graph.specs.Evaluate.{evaluateEffect};
 ghost use Rattle.graph.specs.Lent.{buffersOf, _leaving_};
 ghost use Rattle.text.specs.Calls.{readEffect, writeEffect};
 ghost use Rattle.window.specs.Calls.{pickAnswer, tableAnswer};
-ghost use Rattle.promises.specs.Promises.{readBack, WrittenAgain, PickedAndTabled, Tabled, ValuesLeft, SameAgain};
+ghost use Rattle.replacement.specs.Calls.{applyEffect};
+ghost use Rattle.promises.specs.Promises.{
+  readBack,
+  WrittenAgain,
+  PickedAndTabled,
+  Tabled,
+  ValuesLeft,
+  GoodIsAccepted,
+  AcceptedKeeps,
+  SameAgain,
+};
 use graph::Evaluated;
 use graph::Var;
+use replacement::Applied;
+use replacement::Proposal;
 use text::ReadText;
 use text::WrittenText;
 use window::Leaves;
@@ -110,4 +122,35 @@ pub fn evaluate_under(
         (now (values .entry)) r (now (values .exit)) ⌝ }
 {
     evaluator::evaluate(inputs, gates, outputs, assignment, values)
+}
+
+// Applies a proposal, whatever it is.
+pub fn apply_proposal(
+    inputs: usize,
+    gates: &[u32],
+    outputs: &[u32],
+    root: Var,
+    leaves: Leaves,
+    proposal: Proposal,
+    words: &mut [u32],
+    results: &mut [u32],
+) -> Applied
+    ensures { λ r. ⌜ r leaving buffersOf (now (words .exit)) (now (results .exit))
+        ≡ applyEffect (graphOf inputs (now (gates .entry)) (now (outputs .entry))) (root .0) leaves proposal
+        (buffersOf (now (words .entry)) (now (results .entry))) ⌝ }
+    ensures { λ r. ⌜ GoodIsAccepted (graphOf inputs (now (gates .entry)) (now (outputs .entry))) (root .0) leaves proposal
+        (buffersOf (now (words .entry)) (now (results .entry))) r (buffersOf (now (words .exit)) (now (results .exit))) ⌝ }
+    ensures { λ r. ⌜ AcceptedKeeps (graphOf inputs (now (gates .entry)) (now (outputs .entry)))
+        (buffersOf (now (words .entry)) (now (results .entry))) r (buffersOf (now (words .exit)) (now (results .exit))) ⌝ }
+{
+    replacer::apply(
+        inputs,
+        gates,
+        outputs,
+        root,
+        leaves,
+        proposal,
+        words,
+        results,
+    )
 }
