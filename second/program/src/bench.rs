@@ -15,7 +15,7 @@ const TURNS: usize = 40;
 type Row = (&'static str, u32, Work, Work);
 type Work = fn(&mut Lent, &Given);
 
-const ROWS: [Row; 6] = [
+const ROWS: [Row; 8] = [
     ("read", 50, Lent::read_proved, Lent::read_second),
     ("write", 50, Lent::write_proved, Lent::write_second),
     ("read and write", 50, both_proved, both_second),
@@ -31,6 +31,13 @@ const ROWS: [Row; 6] = [
         1,
         Lent::table_proved,
         Lent::table_second,
+    ),
+    ("apply", 1, Lent::apply_proved, Lent::apply_second),
+    (
+        "apply, refused for no gain",
+        1,
+        Lent::refuse_proved,
+        Lent::refuse_second,
     ),
 ];
 

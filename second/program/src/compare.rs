@@ -3,6 +3,8 @@
 //! alike, and a tally says what came out.
 
 #[cfg(feature = "proved")]
+pub mod apply;
+#[cfg(feature = "proved")]
 pub mod graph;
 mod tally;
 #[cfg(test)]

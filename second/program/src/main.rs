@@ -34,6 +34,8 @@ const COMMANDS: &[(&str, Command)] = &[
     #[cfg(feature = "proved")]
     ("compare-graph", Command::Compares(compare::graph::compare)),
     #[cfg(feature = "proved")]
+    ("compare-apply", Command::Compares(compare::apply::compare)),
+    #[cfg(feature = "proved")]
     ("bench", Command::Prints(bench::bench)),
 ];
 

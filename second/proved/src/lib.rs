@@ -2,7 +2,7 @@
 //! declarations against the Rattle source, so they keep to numbers and slices:
 //! a slice is passed as a pointer and a length.
 
-use model::{Graph, Leaves};
+use model::{Graph, Leaves, Proposal};
 
 extern "C" {
     fn nenquilco_read(
@@ -72,6 +72,32 @@ extern "C" {
         e: u32,
         f: u32,
         bits: *mut u64,
+    ) -> u32;
+
+    fn nenquilco_apply(
+        inputs: usize,
+        gates: *const u32,
+        gates_length: usize,
+        outputs: *const u32,
+        outputs_length: usize,
+        root: u32,
+        count: usize,
+        a: u32,
+        b: u32,
+        c: u32,
+        d: u32,
+        e: u32,
+        f: u32,
+        kind: u32,
+        first: u32,
+        second: u32,
+        turned: u32,
+        words: *mut u32,
+        words_length: usize,
+        results: *mut u32,
+        results_length: usize,
+        gate_count: *mut usize,
+        output_count: *mut usize,
     ) -> u32;
 }
 
@@ -179,6 +205,49 @@ pub fn table(graph: &Graph, root: u32, leaves: &Leaves, bits: &mut u64) -> u32 {
             e,
             f,
             bits,
+        )
+    }
+}
+
+/// Applies a proposal and stores the finished graph in lent lists. The answer
+/// is a refusal's number, or 0; then the counts are those of gates and outputs.
+pub fn apply(
+    graph: &Graph,
+    root: u32,
+    leaves: &Leaves,
+    proposal: &Proposal,
+    words: &mut [u32],
+    results: &mut [u32],
+    counts: &mut [usize; 2],
+) -> u32 {
+    let [a, b, c, d, e, f] = leaves.places;
+    let [gate_count, output_count] = counts;
+    // SAFETY: as above.
+    unsafe {
+        nenquilco_apply(
+            graph.inputs as usize,
+            graph.gates.as_ptr(),
+            graph.gates.len(),
+            graph.outputs.as_ptr(),
+            graph.outputs.len(),
+            root,
+            leaves.count,
+            a,
+            b,
+            c,
+            d,
+            e,
+            f,
+            proposal.kind,
+            proposal.first,
+            proposal.second,
+            proposal.turned,
+            words.as_mut_ptr(),
+            words.len(),
+            results.as_mut_ptr(),
+            results.len(),
+            gate_count,
+            output_count,
         )
     }
 }

@@ -1,8 +1,10 @@
 //! What is timed, on the proved side and on this program's.
 
 use model::leaves::leaf_rule;
+use model::listing::Search;
+use model::reach::Reach;
 use model::window::Window;
-use model::{Graph, Leaves, Refusal, Var};
+use model::{Graph, Leaves, Proposal, Refusal, Var};
 use samples::graphs::{self, BIG};
 use samples::{assignments, texts, windows, Random};
 use std::hint::black_box;
@@ -10,12 +12,15 @@ use std::hint::black_box;
 const SEED: u64 = 1;
 
 /// What both sides are given: a graph at every limit, its text, an assignment,
-/// and the gates in use with the leaves that the rule picks.
+/// the gates in use with the leaves that the rule picks, and for some of them
+/// a good proposal, and one that gains nothing.
 pub struct Given {
     graph: Graph,
     text: Vec<u8>,
     assignment: Vec<u32>,
     windows: Vec<(Var, Leaves)>,
+    good: Vec<(Var, Leaves, Proposal)>,
+    gainless: Vec<(Var, Leaves, Proposal)>,
 }
 
 impl Given {
@@ -23,10 +28,13 @@ impl Given {
         let mut random = Random::new(SEED);
         let graph = graphs::exact(&mut random, BIG);
         let in_use = windows::gates_in_use(&graph).into_iter();
+        let windows: Vec<_> = in_use.map(|gate| (gate, leaf_rule(&graph, gate))).collect();
         Given {
             text: texts::plain(&graph),
             assignment: assignments::good(&mut random, graph.inputs),
-            windows: in_use.map(|gate| (gate, leaf_rule(&graph, gate))).collect(),
+            good: proposed(&windows, |root, leaves| first_good(&graph, root, leaves)),
+            gainless: proposed(&windows, |root, leaves| own_gate(&graph, root, leaves)),
+            windows,
             graph,
         }
     }
@@ -34,8 +42,36 @@ impl Given {
     pub fn title(&self) -> String {
         let (gates, in_use) = (self.graph.gate_count(), self.windows.len());
         let length = self.text.len();
-        format!("{gates} gates, {in_use} in use, a text of {length} bytes")
+        let (good, gainless) = (self.good.len(), self.gainless.len());
+        format!(
+            "{gates} gates, {in_use} in use, a text of {length} bytes; \
+             {good} good proposals, {gainless} that gain nothing"
+        )
     }
+}
+
+/// A proposal at each root that has one.
+fn proposed(
+    windows: &[(Var, Leaves)],
+    proposal: impl Fn(Var, &Leaves) -> Option<Proposal>,
+) -> Vec<(Var, Leaves, Proposal)> {
+    let with = |&(root, leaves): &(Var, Leaves)| Some((root, leaves, proposal(root, &leaves)?));
+    windows.iter().filter_map(with).collect()
+}
+
+fn first_good(graph: &Graph, root: Var, leaves: &Leaves) -> Option<Proposal> {
+    let reach = Reach::new(graph);
+    let search = Search::new(graph, &reach, root, leaves);
+    let first = search.good().next();
+    first.map(|record| record.proposal())
+}
+
+/// The root's own gate as a proposal, where it is refused for its gain alone.
+fn own_gate(graph: &Graph, root: Var, leaves: &Leaves) -> Option<Proposal> {
+    let [high, low] = graph.fanins(root)?;
+    let proposal = Proposal::pair(high, low, 0);
+    let answer = model::apply(graph, root, leaves, &proposal, &mut [], &mut []);
+    (answer == Err(Refusal::NoGain)).then_some(proposal)
 }
 
 /// One side's lent memory, not cleared between calls.
@@ -121,6 +157,57 @@ impl Lent {
             let number = proved::table(black_box(&given.graph), root.0, leaves, table);
             assert_eq!(number, 0);
         }
+    }
+
+    pub fn apply_proved(&mut self, given: &Given) {
+        for proposed in &given.good {
+            assert_eq!(self.applied_proved(given, proposed), 0);
+        }
+    }
+
+    pub fn apply_second(&mut self, given: &Given) {
+        for proposed in &given.good {
+            let answer = self.applied_second(given, proposed);
+            let (gates, outputs) = answer.expect("the proposal is good");
+            self.counts = [0, gates, outputs];
+        }
+    }
+
+    pub fn refuse_proved(&mut self, given: &Given) {
+        for proposed in &given.gainless {
+            let number = self.applied_proved(given, proposed);
+            assert_eq!(number, Refusal::NoGain.number());
+        }
+    }
+
+    pub fn refuse_second(&mut self, given: &Given) {
+        for proposed in &given.gainless {
+            let answer = self.applied_second(given, proposed);
+            assert_eq!(answer, Err(Refusal::NoGain));
+        }
+    }
+
+    fn applied_proved(
+        &mut self,
+        given: &Given,
+        (root, leaves, proposal): &(Var, Leaves, Proposal),
+    ) -> u32 {
+        let graph = black_box(&given.graph);
+        let (words, results) = (&mut self.gates, &mut self.outputs);
+        let mut counts = [self.counts[1], self.counts[2]];
+        let number = proved::apply(graph, root.0, leaves, proposal, words, results, &mut counts);
+        self.counts = [0, counts[0], counts[1]];
+        number
+    }
+
+    fn applied_second(
+        &mut self,
+        given: &Given,
+        (root, leaves, proposal): &(Var, Leaves, Proposal),
+    ) -> Result<(usize, usize), Refusal> {
+        let graph = black_box(&given.graph);
+        let (words, results) = (&mut self.gates, &mut self.outputs);
+        model::apply(graph, *root, leaves, proposal, words, results)
     }
 
     pub fn table_second(&mut self, given: &Given) {

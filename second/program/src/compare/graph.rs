@@ -2,8 +2,8 @@
 //! leaf rule and tables. Every call is made on each graph, with arguments good
 //! and bad of every sort, and what a refusal must leave is poisoned beforehand.
 
-mod arguments;
-mod graphs;
+pub mod arguments;
+pub mod graphs;
 
 use super::tally::{Calls, Tally};
 use super::{in_numbers, poisoned, Comparison};

@@ -21,7 +21,7 @@ pub const SORTS: [Sort<Graph>; 11] = [
     ("noise", 1_500, odd_graphs::noise),
 ];
 
-fn idle(random: &mut Random) -> Graph {
+pub fn idle(random: &mut Random) -> Graph {
     let mut graph = graphs::any(random);
     let last = graph.last_var().0;
     let outputs = random.between(0, 2);
@@ -30,7 +30,7 @@ fn idle(random: &mut Random) -> Graph {
     graph
 }
 
-fn deep(random: &mut Random) -> Graph {
+pub fn deep(random: &mut Random) -> Graph {
     let size = Size {
         inputs: random.between(0, 8),
         gates: random.between(40, MOST_GATES),
@@ -39,17 +39,17 @@ fn deep(random: &mut Random) -> Graph {
     graphs::chain(random, size)
 }
 
-fn edge(random: &mut Random) -> Graph {
+pub fn edge(random: &mut Random) -> Graph {
     let graph = graphs::any(random);
     odd_graphs::one_word_changed(random, graph)
 }
 
-fn odd(random: &mut Random) -> Graph {
+pub fn odd(random: &mut Random) -> Graph {
     let graph = graphs::any(random);
     odd_graphs::odd_gate_list(random, graph)
 }
 
-fn many(random: &mut Random) -> Graph {
+pub fn many(random: &mut Random) -> Graph {
     let graph = graphs::any(random);
     odd_graphs::too_many_inputs(random, graph)
 }

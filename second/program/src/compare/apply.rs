@@ -1,0 +1,59 @@
+//! Compares the proved call that applies a proposal with this program's. Half
+//! of the proposals on a good graph come from this program's list, the others
+//! may be anything. A finished graph is judged here as well: its outputs have
+//! their old values, and fewer gates are in use.
+
+mod cases;
+mod judged;
+
+use super::tally::{Calls, Tally};
+use super::{in_numbers, poisoned, Comparison};
+use cases::Case;
+use model::Graph;
+use samples::Random;
+use std::io::{self, Write};
+
+const CALLS: Calls = &[("apply", &[0, 7, 9, 10, 11, 12, 13, 14, 16])];
+
+pub fn compare(out: &mut dyn Write) -> io::Result<bool> {
+    let mut comparison = Comparison::new(CALLS, out);
+    comparison.sorts("graphs", &cases::SORTS, same_answers)?;
+    comparison.report()
+}
+
+fn same_answers(random: &mut Random, graph: &Graph, tally: &mut Tally) -> bool {
+    let cases = cases::cases(random, graph);
+    cases
+        .iter()
+        .all(|case| same_answer(random, graph, case, tally))
+}
+
+fn same_answer(random: &mut Random, graph: &Graph, case: &Case, tally: &mut Tally) -> bool {
+    let mut words = poisoned(random, case.room.0, |word| word as u32);
+    let mut results = poisoned(random, case.room.1, |word| word as u32);
+    let (mut other_words, mut other_results) = (words.clone(), results.clone());
+    let poison = [0; 2].map(|_| random.word() as usize);
+    let mut counts = poison;
+    let number = proved::apply(
+        graph,
+        case.root.0,
+        &case.leaves,
+        &case.proposal,
+        &mut words,
+        &mut results,
+        &mut counts,
+    );
+    let expected = model::apply(
+        graph,
+        case.root,
+        &case.leaves,
+        &case.proposal,
+        &mut other_words,
+        &mut other_results,
+    );
+    let expected = expected.map(|(gates, outputs)| [gates, outputs]);
+    tally.answer("apply", number);
+    (number, counts) == in_numbers(expected, poison)
+        && (&words, &results) == (&other_words, &other_results)
+        && (number != 0 || judged::keeps(random, graph, counts, &words, &results))
+}
