@@ -27,7 +27,7 @@ use window::Table;
 
 // The literal's variable is below the root, and covered by what `covers` says.
 fn divides(covers: &[bool], root: Var, l: Lit) -> bool
-    requires { ⌜ root .0 ≤ length (now covers) ⌝ }
+    requires { ⌜ root .0 < length (now covers) ⌝ }
     ensures { λ r. ⌜ r ≡ divides (λ v. getD (now (covers .entry)) v false) (root .0) (l .0) ⌝ }
 {
     if root.0 <= l.var().0 {
@@ -39,7 +39,7 @@ fn divides(covers: &[bool], root: Var, l: Lit) -> bool
 
 // Kind 0: such a literal, and the other fields are 0.
 fn is_literal(covers: &[bool], root: Var, proposal: Proposal) -> bool
-    requires { ⌜ root .0 ≤ length (now covers) ⌝ }
+    requires { ⌜ root .0 < length (now covers) ⌝ }
     ensures { λ r. ⌜ r ≡ every (literalRules (λ v. getD (now (covers .entry)) v false) (root .0) proposal) ⌝ }
 {
     if proposal.second.0 != 0 {
@@ -53,7 +53,7 @@ fn is_literal(covers: &[bool], root: Var, proposal: Proposal) -> bool
 
 // Kind 1: two such literals in their order, neither of variable 0, turned or not.
 fn is_and(covers: &[bool], root: Var, proposal: Proposal) -> bool
-    requires { ⌜ root .0 ≤ length (now covers) ⌝ }
+    requires { ⌜ root .0 < length (now covers) ⌝ }
     ensures { λ r. ⌜ r ≡ every (andRules (λ v. getD (now (covers .entry)) v false) (root .0) proposal) ⌝ }
 {
     let first = proposal.first.var();
@@ -75,7 +75,7 @@ fn is_and(covers: &[bool], root: Var, proposal: Proposal) -> bool
 
 // The proposal keeps its kind's rule, by what `covers` says.
 fn keeps_rule(covers: &[bool], root: Var, proposal: Proposal) -> bool
-    requires { ⌜ root .0 ≤ length (now covers) ⌝ }
+    requires { ⌜ root .0 < length (now covers) ⌝ }
     ensures { λ r. ⌜ r ≡ keepsRule (λ v. getD (now (covers .entry)) v false) (root .0) proposal ⌝ }
 {
     if proposal.kind == 0 {
