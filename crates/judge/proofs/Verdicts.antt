@@ -17,9 +17,8 @@ use Rattle.window.specs.Calls.{windowRefusals, Window}
 use Rattle.window.proofs.Calls.{window-accepted}
 use Rattle.replacement.specs.declared.types.Proposal.{Proposal}
 use Rattle.replacement.specs.Proposal.{allowed, a-literal, an-and, AllowedByTest}
-use Rattle.replacement.specs.Calls.{equalTables}
+use Rattle.replacement.specs.Calls.{equalTables, proposalRefusals}
 use Rattle.replacement.proofs.Proposal.{allowed-iff}
-use Rattle.judge.specs.Judging.{proposalRefusals}
 
 module _ (g : Graph) (root : ℕ) (w : Leaves) (p : Proposal) where
   ownRows : List Row

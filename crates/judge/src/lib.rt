@@ -10,7 +10,7 @@ ghost use Rattle.graph.specs.Refuse.{firstRefusal, verdictIs};
 ghost use Rattle.window.specs.Leaves.{WellSet};
 ghost use Rattle.window.specs.Table.{words, table, sameTable};
 ghost use Rattle.replacement.specs.Proposal.{divides, literalRules, andRules, keepsRule, allowed, proposedValue, proposedTable};
-ghost use Rattle.judge.specs.Judging.{proposalRefusals};
+ghost use Rattle.replacement.specs.Calls.{proposalRefusals};
 use cutter::cover::cover;
 use cutter::tables::fill_tables;
 use cutter::tables::literal_table;

@@ -10,7 +10,7 @@ use Rattle.graph.specs.declared.refusal.Refusal.{Refusal}
 use Rattle.graph.specs.declared.evaluated.Evaluated.{Evaluated}
 use Rattle.graph.specs.Graph.{Graph, graphOf, size, sinks, WellFormed}
 use Rattle.graph.specs.Evaluate.{Assignment, evaluateEffect}
-use Rattle.graph.specs.Use.{InUse, usedGates}
+use Rattle.graph.specs.Use.{InUse}
 use Rattle.graph.specs.Lent.{Buffers, RoomFor, Effect, _leaving_}
 use Rattle.text.specs.declared.ReadText.{ReadText}
 use Rattle.text.specs.declared.WrittenText.{WrittenText}
@@ -27,7 +27,7 @@ use Rattle.replacement.specs.declared.types.Proposal.{Proposal}
 use Rattle.replacement.specs.declared.types.Applied.{Applied}
 use Rattle.replacement.specs.Rewire.{finished}
 use Rattle.replacement.specs.Calls.{GoodProposal, applyEffect, appliedOutcome}
-use Rattle.promises.specs.Promises.{Keeps, Holds, ReadAs, EvaluatedAs, PickedAs, TableAs, AppliedAs, readBack, graphIn}
+use Rattle.promises.specs.Promises.{ReadAs, EvaluatedAs, PickedAs, TableAs, AppliedAs, readBack, graphIn}
 use Rattle.promises.proofs.Granted.{
   stated-text-is-read,
   writing-has-no-refusal,
@@ -91,8 +91,8 @@ counts : Applied → ℕ × ℕ
 counts (Applied.Graph a o) = (a, o)
 counts (Applied.Refused r) = (0, 0)
 
-ap₃ : {A B C D : Type 0} (f : A → B → C → D) {x x′ : A} {y y′ : B} {z z′ : C} → x ≡ x′ → y ≡ y′ → z ≡ z′ → f x y z ≡ f x′ y′ z′
-ap₃ f p q e = rw (p, q, e)
+same-parts : {i i′ : ℕ} {gs gs′ os os′ : List ℕ} → i ≡ i′ → gs ≡ gs′ → os ≡ os′ → graphOf i gs os ≡ graphOf i′ gs′ os′
+same-parts p q r = rw (p, q, r)
 
 -- r and after are what applying p at the root over w with b lent came to
 module _ (g : Graph) (root : ℕ) (w : Leaves) (p : Proposal) (b after : Buffers) (r : Applied)
@@ -107,7 +107,7 @@ module _ (g : Graph) (root : ℕ) (w : Leaves) (p : Proposal) (b after : Buffers
     unfolding appliedOutcome
     applied-number = ap (λ (e : Effect Applied Buffers). (appliedOutcome (e .answer)) .number) (sym met) ∙ rw accepted
 
-    pub applied-was-good : GoodProposal g root w p × AppliedAs g (finished g root p) b (r leaving after)
+    applied-was-good : GoodProposal g root w p × AppliedAs g (finished g root p) b (r leaving after)
     applied-was-good =
         let (good, applied) = apply-stores-finished g root w p b applied-number in
         (good, subst⁻¹ (AppliedAs g (finished g root p) b) met applied)
@@ -125,15 +125,14 @@ module _ (g : Graph) (root : ℕ) (w : Leaves) (p : Proposal) (b after : Buffers
         let holds = applied .holds in
         let (gates, outputs) = counts-are in
         let words : 2 * a ≡ length (finished g root p .net .gates) = omega (arith, gates, holds .gate-words) in
-        ap₃ graphOf (sym (applied .keeps .same-inputs))
+        same-parts (sym (applied .keeps .same-inputs))
         (ap (λ (n : ℕ). take n (after .gates)) words ∙ holds .gates-stored .first-places)
         (ap (λ (n : ℕ). take n (after .outputs)) outputs ∙ holds .outputs-stored .first-places)
 
-    pub applied-keeps : let h = graphIn (g .net .inputs) a o after in Keeps g h × (usedGates h < usedGates g) × Holds h b after
+    pub applied-keeps : GoodProposal g root w p × AppliedAs g (graphIn (g .net .inputs) a o after) b (r leaving after)
     applied-keeps =
-        let applied = applied-was-good .1 in
-        subst⁻¹ (λ (h : Graph). Keeps g h × (usedGates h < usedGates g) × Holds h b after) held-is
-        (applied .keeps, applied .fewer, applied .holds)
+        let (good, applied) = applied-was-good in
+        (good, subst⁻¹ (λ (h : Graph). AppliedAs g h b (r leaving after)) held-is applied)
 
 -- ---- what reading accepts
 

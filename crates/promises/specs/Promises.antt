@@ -163,13 +163,12 @@ PickedAndTabled g root p t = WellFormed g → InUse g root → PickedAs g root p
 abbrev pub graphIn : ℕ → ℕ → ℕ → Buffers → Graph
 graphIn i a o b = graphOf i (take (2 * a) (b .gates)) (take o (b .outputs))
 
--- a proposal was applied to g, whatever it was: where it was accepted the lent lists hold, in g's place, a graph in which strictly fewer
--- gates are in use
-abbrev pub AcceptedKeeps : Graph → Buffers → Applied → Buffers → Type 0
-AcceptedKeeps g before r after =
+-- a proposal was applied to g, whatever came in: where it was accepted it was good, and the lent lists hold, over g's inputs, a graph
+-- that keeps each output's value and in which strictly fewer gates are in use
+abbrev pub AcceptedKeeps : Graph → ℕ → Leaves → Proposal → Buffers → Applied → Buffers → Type 0
+AcceptedKeeps g root w p before r after =
     (a o : ℕ) → r ≡ Applied.Graph a o
-    → let h = graphIn (g .net .inputs) a o after in
-    Keeps g h × (usedGates h < usedGates g) × Holds h before after
+    → GoodProposal g root w p × AppliedAs g (graphIn (g .net .inputs) a o after) before (r leaving after)
 
 -- and the other way: a good one is accepted where there is room for what it makes
 abbrev pub GoodIsAccepted : Graph → ℕ → Leaves → Proposal → Buffers → Applied → Buffers → Type 0

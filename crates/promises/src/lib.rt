@@ -124,7 +124,7 @@ pub fn evaluate_under(
     evaluator::evaluate(inputs, gates, outputs, assignment, values)
 }
 
-// Applies a proposal, whatever it is.
+// Applies a proposal. Good ones are accepted, and none else; what then stands in the lent lists keeps each output's value.
 pub fn apply_proposal(
     inputs: usize,
     gates: &[u32],
@@ -140,7 +140,7 @@ pub fn apply_proposal(
         (buffersOf (now (words .entry)) (now (results .entry))) ⌝ }
     ensures { λ r. ⌜ GoodIsAccepted (graphOf inputs (now (gates .entry)) (now (outputs .entry))) (root .0) leaves proposal
         (buffersOf (now (words .entry)) (now (results .entry))) r (buffersOf (now (words .exit)) (now (results .exit))) ⌝ }
-    ensures { λ r. ⌜ AcceptedKeeps (graphOf inputs (now (gates .entry)) (now (outputs .entry)))
+    ensures { λ r. ⌜ AcceptedKeeps (graphOf inputs (now (gates .entry)) (now (outputs .entry))) (root .0) leaves proposal
         (buffersOf (now (words .entry)) (now (results .entry))) r (buffersOf (now (words .exit)) (now (results .exit))) ⌝ }
 {
     replacer::apply(

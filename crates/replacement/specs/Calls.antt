@@ -46,24 +46,36 @@ pub data ApplyGiven (g : Graph) (root : ℕ) (w : Leaves) (p : Proposal) (b : Bu
   order-lost : ¬ WellFormed (finished g root p) → ApplyGiven g root w p b OrderLost
   no-room : ¬ RoomFor (finished g root p) b → ApplyGiven g root w p b NoRoom
 
--- the room is that of the finished graph
-unfoldable pub applyRefusals : Graph → ℕ → Leaves → Proposal → Buffers → List Row
-unfolding windowRefusals allowed equalTables gain atLeastOne finished wellFormed noRoomFor
-applyRefusals g root w p b =
+-- over a window the proposal's own fields decide first, then its table
+unfoldable pub proposalRefusals : Graph → ℕ → Leaves → Proposal → List Row
+unfolding windowRefusals allowed equalTables
+proposalRefusals g root w p =
     windowRefusals g root w
     ++ (not (allowed (g .net) root w p) ⇒ BadCandidate
     ∷ not (equalTables g root w p) ⇒ NotEqual
-    ∷ not (atLeastOne (gain g root p)) ⇒ NoGain
+    ∷ [])
+
+-- then what it makes of the graph; the room is that of the finished graph
+unfoldable pub applyRefusals : Graph → ℕ → Leaves → Proposal → Buffers → List Row
+unfolding proposalRefusals gain atLeastOne finished wellFormed noRoomFor
+applyRefusals g root w p b =
+    proposalRefusals g root w p
+    ++ (not (atLeastOne (gain g root p)) ⇒ NoGain
     ∷ not (wellFormed (finished g root p)) ⇒ OrderLost
     ∷ noRoomFor (finished g root p) b ⇒ NoRoom
     ∷ [])
 
+-- the graph h is left in the lent lists, and its counts are told
+unfoldable pub leftIn : Graph → Buffers → Effect Applied Buffers
+unfolding storedIn
+leftIn h b = Applied.Graph (size (h .net)) (length (h .outputs)) leaving storedIn h b
+
 unfoldable pub applyEffect : Graph → ℕ → Leaves → Proposal → Buffers → Effect Applied Buffers
-unfolding applyRefusals firstRefusal finished storedIn
+unfolding applyRefusals firstRefusal finished leftIn
 applyEffect g root w p b =
     elim (firstRefusal (applyRefusals g root w p b)) [
       | some r ↦ Applied.Refused r leaving b
-      | none ↦ let h = finished g root p in Applied.Graph (size (h .net)) (length (h .outputs)) leaving storedIn h b
+      | none ↦ leftIn (finished g root p) b
     ]
 
 unfoldable pub appliedOutcome : Applied → Outcome

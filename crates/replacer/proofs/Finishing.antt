@@ -19,6 +19,7 @@ use Rattle.graph.proofs.Lists.{same-tests, equal-or-not}
 use Rattle.replacement.specs.declared.types.Proposal.{Proposal}
 use Rattle.replacement.specs.declared.types.Applied.{Applied}
 use Rattle.replacement.specs.Rewire.{Wires, to-literal, to-and, redirected, rewiredNet, rewired, finished}
+use Rattle.replacement.specs.Calls.{leftIn}
 use Rattle.replacement.specs.Vanish.{literals, Without, From, MarksPast}
 use Rattle.replacement.proofs.Rewire.{and-kind, old-gate, rewired-size, rewired-free}
 use Rattle.replacement.proofs.Reach.{named-below}
@@ -160,7 +161,7 @@ module _ (g : Graph) (ok : WellFormed g) (root : ℕ) (gate : IsGate (g .net) ro
           → gs ≡ written (keptGates (rewiredNet (g .net) root p) kept numbers) (b .gates)
           → os ≡ written (map (λ l. byNumbers numbers (redirected root p l)) (g .outputs)) (b .outputs)
           → Applied.Graph m (length (g .outputs)) leaving buffersOf gs os ≡ finishEffect g root p b
-      unfolding finishEffect storedIn
+      unfolding finishEffect leftIn storedIn
       finish-stored e x y =
           let gates : m ≡ size (finished g root p .net) = omega (arith, count, finished-words) in
           same-graph gates

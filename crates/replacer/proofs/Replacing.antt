@@ -25,12 +25,11 @@ use Rattle.replacement.specs.declared.types.Proposal.{Proposal}
 use Rattle.replacement.specs.declared.types.Applied.{Applied}
 use Rattle.replacement.specs.Proposal.{allowed}
 use Rattle.replacement.specs.Rewire.{Wires, finished, gain, atLeastOne, positive}
-use Rattle.replacement.specs.Calls.{equalTables, applyRefusals, applyEffect}
+use Rattle.replacement.specs.Calls.{proposalRefusals, applyRefusals, leftIn, applyEffect}
 use Rattle.replacement.proofs.Gain.{gain-iff, positive-iff}
 use Rattle.replacement.proofs.Proposal.{allowed-iff}
 use Rattle.replacement.proofs.Rewire.{wires-of}
 use Rattle.replacement.proofs.Finished.{finished-well-formed}
-use Rattle.judge.specs.Judging.{proposalRefusals}
 use Rattle.judge.proofs.Verdicts.{proposal-known}
 use Rattle.replacer.specs.Finishing.{finishEffect, replaceEffect}
 
@@ -49,9 +48,6 @@ module _ (g : Graph) (root : ℕ) (p : Proposal) (b : Buffers) where
 -- ---- past the verdict on the proposal
 
 module _ (g : Graph) (root : ℕ) (w : Leaves) (p : Proposal) (b : Buffers) where
-  firstRows : List Row
-  firstRows = not (allowed (g .net) root w p) ⇒ BadCandidate ∷ not (equalTables g root w p) ⇒ NotEqual ∷ []
-
   lastRows : List Row
   lastRows =
       not (atLeastOne (gain g root p)) ⇒ NoGain
@@ -60,15 +56,13 @@ module _ (g : Graph) (root : ℕ) (w : Leaves) (p : Proposal) (b : Buffers) wher
       ∷ []
 
   parts : firstRefusal (applyRefusals g root w p b) ≡ orElse (firstRefusal (proposalRefusals g root w p)) (firstRefusal lastRows)
-  unfolding applyRefusals proposalRefusals firstRows lastRows
-  parts =
-      ap firstRefusal (sym (append-assoc (windowRefusals g root w) firstRows lastRows))
-      ∙ first-join (windowRefusals g root w ++ firstRows) lastRows
+  unfolding applyRefusals lastRows
+  parts = first-join (proposalRefusals g root w p) lastRows
 
   answers : (o : Option Refusal) → firstRefusal (applyRefusals g root w p b) ≡ o
       → applyEffect g root w p b ≡ elim o [
         | some r ↦ Applied.Refused r leaving b
-        | none ↦ Applied.Graph (size (finished g root p .net)) (length (finished g root p .outputs)) leaving storedIn (finished g root p) b
+        | none ↦ leftIn (finished g root p) b
       ]
   unfolding applyEffect
   answers o e = rw (e, applyEffect)

@@ -7,7 +7,7 @@ use mathlib.Core.List.{List, [], _∷_}
 use lib.ListN.{length, getD}
 use Rattle.graph.specs.Lists.{gather}
 use Rattle.graph.specs.Literal.{varOf}
-use Rattle.graph.specs.Lent.{Buffers, noRoomFor, storedIn, Effect, _leaving_}
+use Rattle.graph.specs.Lent.{Buffers, noRoomFor, Effect, _leaving_}
 use Rattle.graph.specs.declared.refusal.Refusal.the-variants.{NoGain, NoRoom}
 use Rattle.graph.specs.Graph.{Net, Graph, free, size, last, first, second, IsGate, Lawful, WellFormedNet}
 use Rattle.graph.specs.Use.{InUse, marks}
@@ -15,6 +15,7 @@ use Rattle.graph.specs.Drop.{newNumber}
 use Rattle.replacement.specs.declared.types.Proposal.{Proposal}
 use Rattle.replacement.specs.declared.types.Applied.{Applied}
 use Rattle.replacement.specs.Rewire.{Wires, rewiredNet, rewired, finished, gain, atLeastOne}
+use Rattle.replacement.specs.Calls.{leftIn}
 use Rattle.replacement.specs.Vanish.{MarksPast}
 
 -- each gate's mark says whether it is in use once the root is replaced
@@ -41,12 +42,12 @@ pub record SmallNumbers (ns : List ℕ) : Type 0 where
 unfoldable pub byNumbers : List ℕ → ℕ → ℕ
 byNumbers ns l = 2 * getD ns (varOf l) 0 + l % 2
 
--- what is left of v's gate in the rewired net
+-- what is left of v's gate
 unfoldable pub keptWords : Net → List Bool → List ℕ → ℕ → List ℕ
 unfolding byNumbers first second
 keptWords net ms ns v = cond (getD ms v false) (byNumbers ns (first net v) ∷ byNumbers ns (second net v) ∷ []) []
 
--- what putting gates asks for: a proposal whose literals lie below a gate, a mark a variable, and small numbers for all of them
+-- what putting gates asks for: a well-formed net, a proposal whose literals lie below a gate, a mark a variable, and small numbers for all of them
 pub record Putting (net : Net) (root : ℕ) (p : Proposal) (ms : List Bool) (ns : List ℕ) : Type 0 where
   pub net-ok : WellFormedNet net
   pub gate : IsGate net root
@@ -62,12 +63,11 @@ keptGates net ms ns = gather (λ k. keptWords net ms ns (suc (free net + k))) (s
 
 -- what storing the finished graph comes to
 unfoldable pub finishEffect : Graph → ℕ → Proposal → Buffers → Effect Applied Buffers
-unfolding finished noRoomFor storedIn
+unfolding finished noRoomFor leftIn
 finishEffect g root p b =
-    let h = finished g root p in
-    cond (noRoomFor h b) (Applied.Refused NoRoom leaving b) (Applied.Graph (size (h .net)) (length (h .outputs)) leaving storedIn h b)
+    let h = finished g root p in cond (noRoomFor h b) (Applied.Refused NoRoom leaving b) (leftIn h b)
 
--- what replacing a root in use by a proposal whose table is the root's comes to
+-- what replacing a root comes to, where only the gain and the room are left to judge
 unfoldable pub replaceEffect : Graph → ℕ → Proposal → Buffers → Effect Applied Buffers
 unfolding gain atLeastOne finishEffect
 replaceEffect g root p b = cond (atLeastOne (gain g root p)) (finishEffect g root p b) (Applied.Refused NoGain leaving b)

@@ -7,7 +7,7 @@ use denote.Ref.{now}
 use Rattle.graph.specs.Graph.{Graph, graphOf}
 use Rattle.graph.specs.Lent.{Buffers, buffersOf}
 use Rattle.graph.specs.Refuse.{firstRefusal, verdictIs}
-use Rattle.judge.specs.Judging.{proposalRefusals}
+use Rattle.replacement.specs.Calls.{proposalRefusals}
 use Rattle.replacer.proofs.Replacing.{apply-refused, replacing-known, apply-replaces}
 use Rattle.replacer.proofs.apply.Statement.{statement}
 use Rattle.replacer.proofs.apply.Tie as tie
