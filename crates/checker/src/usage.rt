@@ -39,15 +39,15 @@ fn mark_fanins(inputs: usize, gates: &[u32], v: Var, marks: &mut [bool])
     }
 }
 
-// So from the gate numbered `from`, the first being 1, down to the one after the k-th.
-pub fn mark_after(inputs: usize, gates: &[u32], from: usize, k: usize, marks: &mut [bool])
-    requires { ⌜ WellFormedNet (netOf inputs (now gates)) × (k ≤ from) × (from ≤ size (netOf inputs (now gates)))
+// So from gate number `from` down to the one after number `stop`, where the first gate is number 1.
+pub fn mark_after(inputs: usize, gates: &[u32], from: usize, stop: usize, marks: &mut [bool])
+    requires { ⌜ WellFormedNet (netOf inputs (now gates)) × (stop ≤ from) × (from ≤ size (netOf inputs (now gates)))
         × (last (netOf inputs (now gates)) < length (marksIn (now marks))) ⌝ }
     ensures { λ _. ⌜ marksIn (now (marks .exit))
-        ≡ markAfter (netOf inputs (now (gates .entry))) k (from - k) (marksIn (now (marks .entry))) ⌝ }
+        ≡ markAfter (netOf inputs (now (gates .entry))) stop (from - stop) (marksIn (now (marks .entry))) ⌝ }
 {
     let mut next = from;
-    while k < next {
+    while stop < next {
         let v = Var((inputs + next) as u32);
         mark_fanins(inputs, gates, v, marks);
         next -= 1;

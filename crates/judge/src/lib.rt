@@ -25,7 +25,7 @@ use replacement::Proposal;
 use window::Leaves;
 use window::Table;
 
-// The literal's variable is below the root, and covered by what `covers` says.
+// The literal's variable is below the root and covered; `covers` says which variables are.
 fn divides(covers: &[bool], root: Var, l: Lit) -> bool
     requires { ⌜ root .0 < length (now covers) ⌝ }
     ensures { λ r. ⌜ r ≡ divides (λ v. getD (now (covers .entry)) v false) (root .0) (l .0) ⌝ }
@@ -37,7 +37,7 @@ fn divides(covers: &[bool], root: Var, l: Lit) -> bool
     covers[at]
 }
 
-// Kind 0: such a literal, and the other fields are 0.
+// The rule of kind 0: a literal whose variable divides the root, and the other fields are 0.
 fn is_literal(covers: &[bool], root: Var, proposal: Proposal) -> bool
     requires { ⌜ root .0 < length (now covers) ⌝ }
     ensures { λ r. ⌜ r ≡ every (literalRules (λ v. getD (now (covers .entry)) v false) (root .0) proposal) ⌝ }
@@ -51,7 +51,7 @@ fn is_literal(covers: &[bool], root: Var, proposal: Proposal) -> bool
     divides(covers, root, proposal.first)
 }
 
-// Kind 1: two such literals in their order, neither of variable 0, turned or not.
+// The rule of kind 1: two literals whose variables divide the root, neither of them 0, the second's below the first's; turned is 0 or 1.
 fn is_and(covers: &[bool], root: Var, proposal: Proposal) -> bool
     requires { ⌜ root .0 < length (now covers) ⌝ }
     ensures { λ r. ⌜ r ≡ every (andRules (λ v. getD (now (covers .entry)) v false) (root .0) proposal) ⌝ }
@@ -73,7 +73,7 @@ fn is_and(covers: &[bool], root: Var, proposal: Proposal) -> bool
     divides(covers, root, proposal.second)
 }
 
-// The proposal keeps its kind's rule, by what `covers` says.
+// The proposal keeps its kind's rule; `covers` says which variables are covered.
 fn keeps_rule(covers: &[bool], root: Var, proposal: Proposal) -> bool
     requires { ⌜ root .0 < length (now covers) ⌝ }
     ensures { λ r. ⌜ r ≡ keepsRule (λ v. getD (now (covers .entry)) v false) (root .0) proposal ⌝ }
@@ -87,7 +87,7 @@ fn keeps_rule(covers: &[bool], root: Var, proposal: Proposal) -> bool
     false
 }
 
-// The same over leaves.
+// The proposal keeps its kind's rule over these leaves.
 fn is_allowed(inputs: usize, gates: &[u32], leaves: Leaves, root: Var, proposal: Proposal) -> bool
     requires { ⌜ WellFormedNet (netOf inputs (now gates)) × (root .0 ≤ last (netOf inputs (now gates))) × WellSet (root .0) leaves ⌝ }
     ensures { λ r. ⌜ r ≡ allowed (netOf inputs (now (gates .entry))) (root .0) leaves proposal ⌝ }

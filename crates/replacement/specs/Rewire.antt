@@ -13,11 +13,6 @@ use Rattle.graph.specs.Use.{usedGates}
 use Rattle.graph.specs.Drop.{dropped}
 use Rattle.replacement.specs.declared.types.Proposal.{Proposal}
 
--- what rewiring asks of a proposal: that its literals lie below the root
-pub data Wires (root : ℕ) (p : Proposal) : Type 0 where
-  to-literal : p .kind ≡ 0 → varOf (p .first .0) < root → p .second .0 ≡ 0 → Wires root p
-  to-and : p .kind ≡ 1 → varOf (p .first .0) < root → varOf (p .second .0) < root → p .turned ≤ 1 → Wires root p
-
 -- what a plain reference to the root becomes: in kind 0 the literal, in kind 1 the root, complemented where turned
 unfoldable pub standIn : ℕ → Proposal → ℕ
 standIn root p = cond (eqb (p .kind) 0) (p .first .0) (2 * root + p .turned)
@@ -65,3 +60,9 @@ atLeastOne (negsuc n) = false
 unfoldable pub positive : ℤ → ℕ
 positive (pos n) = n
 positive (negsuc n) = 0
+
+-- what the laws of rewiring ask of a proposal, whatever is covered: one of the two kinds, its literals below the root; in kind 0 no second
+-- one, in kind 1 turned is 0 or 1
+pub data Wires (root : ℕ) (p : Proposal) : Type 0 where
+  to-literal : p .kind ≡ 0 → varOf (p .first .0) < root → p .second .0 ≡ 0 → Wires root p
+  to-and : p .kind ≡ 1 → varOf (p .first .0) < root → varOf (p .second .0) < root → p .turned ≤ 1 → Wires root p

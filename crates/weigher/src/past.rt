@@ -1,5 +1,5 @@
-// The marks past a root: of what outputs reach through no reference to it. Only gates above the root and outputs refer to it, so its mark
-// is taken off before its turn comes.
+// The marks past a root: of what outputs reach through no reference to it. Only outputs and gates above the root refer to it, so its own
+// mark is taken off before its turn comes.
 ghost use mathlib.Core.Path.{_≡_};
 ghost use mathlib.Core.Bool.{false};
 ghost use Prim.Native.Nat.{_<_};
@@ -12,16 +12,16 @@ use checker::usage::mark_after;
 use checker::usage::mark_each;
 use graph::Var;
 
-// Marks them, in marks that are all unset.
+// Marks what outputs reach past the root, in marks that are all unset.
 pub fn mark_past(inputs: usize, gates: &[u32], outputs: &[u32], root: Var, marks: &mut [bool])
     requires { ⌜ WellFormed (graphOf inputs (now gates) (now outputs)) × IsGate (netOf inputs (now gates)) (root .0)
         × (last (netOf inputs (now gates)) < length (marksIn (now marks))) ⌝ }
     requires { ⌜ marksIn (now marks) ≡ replicate (length (marksIn (now marks))) false ⌝ }
     ensures { λ _. ⌜ MarksPast (graphOf inputs (now (gates .entry)) (now (outputs .entry))) (root .0) (marksIn (now (marks .exit))) ⌝ }
 {
-    let place = root.at() - inputs;
+    let number = root.at() - inputs;
     mark_each(outputs, marks);
-    mark_after(inputs, gates, gates.len() / 2, place, marks);
+    mark_after(inputs, gates, gates.len() / 2, number, marks);
     clear_mark(marks, root);
-    mark_after(inputs, gates, place - 1, 0, marks);
+    mark_after(inputs, gates, number - 1, 0, marks);
 }

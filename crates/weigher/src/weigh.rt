@@ -11,7 +11,7 @@ use graph::Lit;
 use graph::Var;
 use replacement::Proposal;
 
-// How many gates go with the root, itself included, where the marks are those past it: what it reaches without a mark.
+// How many gates go with the root, itself included: those that it reaches without a mark, where the marks are those past it.
 pub fn going_with(
     inputs: usize,
     gates: &[u32],
@@ -28,7 +28,7 @@ pub fn going_with(
     held_back(inputs, gates, root.plain(), Lit(0), marks, list)
 }
 
-// What the proposal gains at a root past which the marks are and with which so many gates go; 0 where that is negative.
+// What the proposal gains, or 0 where that is negative. The marks are those past its root, and `going` is how many gates go with it.
 pub fn gain(
     inputs: usize,
     gates: &[u32],
@@ -48,5 +48,6 @@ pub fn gain(
     if going <= held {
         return 0;
     }
+    // What is left is at least one gate, and the proposal puts at most one at the root.
     going - held - proposal.new_gates()
 }

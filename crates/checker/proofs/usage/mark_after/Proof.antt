@@ -13,15 +13,15 @@ use Rattle.checker.proofs.usage.mark_after.Statement.{statement}
 use Rattle.checker.proofs.usage.mark_after.Tie as tie
 
 abbrev Inv-loop : tie.InvT-loop
-Inv-loop inputs gates from k marks₀ next₀ marks next =
+Inv-loop inputs gates from stop marks₀ next₀ marks next =
     let net = netOf inputs gates in
-    (k ≤ next)
+    (stop ≤ next)
     × (next ≤ size net)
     × (length marks ≡ length marks₀)
-    × (markAfter net k (next - k) (marksIn marks) ≡ markAfter net k (from - k) (marksIn marks₀))
+    × (markAfter net stop (next - stop) (marksIn marks) ≡ markAfter net stop (from - stop) (marksIn marks₀))
 
 abbrev μ-loop : tie.MeasureT-loop
-μ-loop inputs gates from k marks₀ next₀ marks next = next
+μ-loop inputs gates from stop marks₀ next₀ marks next = next
 
 loop-holds : tie.Need-loop-holds Inv-loop μ-loop
 loop-holds c = (search needs, search needs, refl, refl)
@@ -56,8 +56,8 @@ loop-again c =
       search needs,
       search needs,
       search needs,
-      ap (markAfter net (a .k) (l .loop .next - 1 - a .k)) (m .mark-fanins .ensures)
-          ∙ after-step net (a .k) (l .loop .next) (marksIn (l .loop .marks)) (omega arith)
+      ap (markAfter net (a .stop) (l .loop .next - 1 - a .stop)) (m .mark-fanins .ensures)
+          ∙ after-step net (a .stop) (l .loop .next) (marksIn (l .loop .marks)) (omega arith)
           ∙ l .loop .inv .3,
     )
 
@@ -69,7 +69,7 @@ returns c =
     let l = c .before in
     let a = l .before .before .before .args in
     let net = netOf (a .inputs) (now (a .gates)) in
-    sym (after-end net (a .k) (l .loop .next) (marksIn (l .loop .marks)) (omega arith)) ∙ l .loop .inv .3
+    sym (after-end net (a .stop) (l .loop .next) (marksIn (l .loop .marks)) (omega arith)) ∙ l .loop .inv .3
 
 pub mark-after-spec : {M : Type 1} → statement M
 mark-after-spec =

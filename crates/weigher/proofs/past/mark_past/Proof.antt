@@ -52,8 +52,8 @@ long-clear d =
 at-requires : tie.Need-at-requires
 at-requires c κs = search needs
 
-sub-place : tie.Need-sub-place
-sub-place c = search needs
+sub-number : tie.Need-sub-number
+sub-number c = search needs
 
 mark-each-requires : tie.Need-mark-each-requires
 mark-each-requires c κs =
@@ -110,7 +110,7 @@ mark-past-spec =
     tie.close
     (tie.spec
     at-requires
-    sub-place
+    sub-number
     mark-each-requires
     mark-after-requires
     clear-mark-requires
