@@ -2,17 +2,19 @@
 -- Assumes nothing.
 use mathlib.Core.Path.{_≡_, refl, sym, ap, _∙_}
 use mathlib.Core.Bool.{true}
+use mathlib.Core.List.{List, []}
 use mathlib.Core.Logic.{_↔_}
 use Prim.Native.Nat.{ℕ, suc, _+_, _-_, _*_, _≤_, _<_, max, min}
 use native.Mathlib.Omega.{arith}
 use borrow.Author.Tests.{leb-true, ltb-true, eqb-true, le-leb, lt-ltb, eq-eqb}
 use lib.Dec.{leb, ltb}
-use lib.ListN.{getD}
+use lib.ListN.{length, getD}
 use Rattle.graph.specs.Lists.{every, allBelow}
-use Rattle.graph.specs.Literal.{LiteralsBelow}
+use Rattle.graph.specs.Literal.{varOf, LiteralsBelow}
 use Rattle.graph.specs.Graph.{
   Net,
   Graph,
+  over,
   free,
   size,
   last,
@@ -120,15 +122,16 @@ well-formed-test g w =
 pub well-formed-iff : (g : Graph) → (wellFormed g ≡ true) ↔ WellFormed g
 well-formed-iff g = (well-formed g, well-formed-test g)
 
+-- a lawful graph's net with literals up to its last variable for outputs
+pub over-lawful : (g : Graph) → Lawful g → (ls : List ℕ) → ((j : ℕ) → j < length ls → varOf (getD ls j 0) ≤ last (g .net))
+    → Lawful (over (g .net) ls)
+over-lawful g ok ls within =
+    record { even = ok .even; ordered = ok .ordered; below = ok .below; sinks-within = λ j h. omega (arith, within j h) }
+
 -- the net of a well formed graph
 pub net-well-formed : (g : Graph) → WellFormed g → WellFormedNet (g .net)
 net-well-formed g ok = record {
-  lawful = record {
-    even = ok .lawful .even;
-    ordered = ok .lawful .ordered;
-    below = ok .lawful .below;
-    sinks-within = λ j h. absurd (omega arith);
-  };
+  lawful = over-lawful g (ok .lawful) [] (λ j h. absurd (omega arith));
   inputs-few = ok .inputs-few;
   outputs-few = omega arith;
   gates-few = ok .gates-few;

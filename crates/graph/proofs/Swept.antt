@@ -25,6 +25,13 @@ module _ {A : Type 0} where
   unfolding written
   written-at xs lent k d h = List·getD-append xs (drop (length xs) lent) d k h
 
+  -- what stood at place 0 does not count, as it is written over
+  pub written-over : (xs lent : List A) (y : A) → 0 < length xs → written xs (set lent 0 y) ≡ written xs lent
+  unfolding written
+  written-over [] lent y h = absurd (omega arith)
+  written-over (x ∷ xs) [] y h = refl
+  written-over (x ∷ xs) (z ∷ lent) y h = refl
+
   pub written-next : (xs : List A) (x : A) (lent : List A) → length xs < length lent
       → set (written xs lent) (length xs) x ≡ written (xs ++ (x ∷ [])) lent
   unfolding written

@@ -24,6 +24,10 @@ pub record Graph : Type 0 where
 abbrev pub graphOf : ℕ → List ℕ → List ℕ → Graph
 graphOf i gs os = record { net = netOf i gs; outputs = os }
 
+-- a graph over this net
+abbrev pub over : Net → List ℕ → Graph
+over net ls = record { net = net; outputs = ls }
+
 -- variable 0 is the constant false, 1 to `free` have values from outside, those after are gates
 abbrev pub free : Net → ℕ
 free net = net .inputs
@@ -110,4 +114,4 @@ pub record WellFormed (g : Graph) : Type 0 where
 
 -- the net of a graph that is well formed: what code asks for that looks at gates alone
 abbrev pub WellFormedNet : Net → Type 0
-WellFormedNet net = WellFormed (record { net = net; outputs = [] })
+WellFormedNet net = WellFormed (over net [])

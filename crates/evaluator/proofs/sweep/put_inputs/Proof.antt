@@ -2,7 +2,7 @@
 -- Assumes nothing.
 use mathlib.Core.Path.{_≡_, refl, sym, ap, _∙_}
 use mathlib.Core.Bool.{Bool, false}
-use mathlib.Core.List.{List, [], _∷_}
+use mathlib.Core.List.{List, []}
 use Prim.Native.Nat.{ℕ, _+_, _-_, _<_, _≤_}
 use native.Mathlib.Numerals.{add-one}
 use native.Mathlib.Omega.{arith}
@@ -12,17 +12,11 @@ use lib.Dec.{eqb}
 use lib.ListN.{length, getD, take, set, length-set, length-map}
 use lib.Seq.{take-all, length-take-le}
 use Rattle.graph.specs.Lent.{written}
-use Rattle.graph.proofs.Swept.{written-next}
+use Rattle.graph.proofs.Swept.{written-over, written-next}
 use Rattle.evaluator.specs.Values.{inputValues}
 use Rattle.evaluator.proofs.Inputs.{inputs-more}
 use Rattle.evaluator.proofs.sweep.put_inputs.Statement.{statement}
 use Rattle.evaluator.proofs.sweep.put_inputs.Tie as tie
-
--- what stood at place 0 does not count, as it is written over
-written-over : (vs : List ℕ) (lent : List Bool) → written (inputValues vs) (set lent 0 false) ≡ written (inputValues vs) lent
-unfolding written inputValues
-written-over vs [] = refl
-written-over vs (b ∷ bs) = refl
 
 inputs-length : (vs : List ℕ) → length (inputValues vs) ≡ length vs + 1
 unfolding inputValues
@@ -56,7 +50,7 @@ loop-holds : tie.Need-loop-holds Inv-loop μ-loop
 unfolding written inputValues
 loop-holds c =
     let lent = now (c .args .known) in
-    (search needs, refl, written-next [] false lent (omega arith) ∙ sym (written-over [] lent))
+    (search needs, refl, written-next [] false lent (omega arith) ∙ sym (written-over (inputValues []) lent false (omega arith)))
 
 mul-known : tie.Need-mul-known Inv-loop μ-loop
 mul-known c = search needs
@@ -96,7 +90,8 @@ returns c =
     let l = c .before in
     let a = l .before .args in
     l .loop .inv .2
-    ∙ written-over (take (l .loop .k) (now (a .assignment))) (now (a .known))
+    ∙ written-over (inputValues (take (l .loop .k) (now (a .assignment)))) (now (a .known)) false
+    (omega (arith, inputs-length (take (l .loop .k) (now (a .assignment)))))
     ∙ ap (λ (vs : List ℕ). written (inputValues vs) (now (a .known))) (take-all (l .loop .k) (now (a .assignment)) (omega arith))
 
 pub put-inputs-spec : {M : Type 1} → statement M

@@ -14,6 +14,7 @@ use Rattle.graph.specs.Lent.{written}
 use Rattle.graph.specs.Graph.{Net, netOf, size, last}
 use Rattle.graph.specs.Use.{countMarks}
 use Rattle.graph.specs.Drop.{newNumber}
+use Rattle.graph.proofs.Swept.{written-over}
 use Rattle.graph.proofs.Renumber.{count-most, number-low}
 use Rattle.checker.specs.Marks.{marksIn}
 use Rattle.replacer.specs.Finishing.{newNumbers}
@@ -31,13 +32,6 @@ Inv-loop inputs gates marks numbers₀ last number₀ n₀ numbers number n =
 
 abbrev μ-loop : tie.MeasureT-loop
 μ-loop inputs gates marks numbers₀ last number₀ n₀ numbers number n = last - n
-
--- what stood at place 0 does not count, as it is written over
-written-over : (xs lent : List ℕ) (y : ℕ) → 0 < length xs → written xs (set lent 0 y) ≡ written xs lent
-unfolding written
-written-over [] lent y h = absurd (omega arith)
-written-over (x ∷ xs) [] y h = refl
-written-over (x ∷ xs) (z ∷ lent) y h = refl
 
 -- variable 0 keeps its number
 starts : (net : Net) (ms : List Bool) (lent : List ℕ) → 0 < length lent → set lent 0 0 ≡ written (numbersTo net ms 0) (set lent 0 0)
