@@ -10,11 +10,10 @@ use native.Mathlib.Omega.{arith}
 use lib.ListN.{length, getD, length-append, length-replicate}
 use Rattle.graph.specs.Lists.{gather, keep}
 use Rattle.graph.specs.Graph.{Net, Graph, free, size, last, sinks, IsGate}
-use Rattle.graph.specs.Use.{markFanins, markDown, marks, countMarks}
+use Rattle.graph.specs.Use.{markDown, marks, countMarks}
 use Rattle.graph.proofs.Lists.{at-most-or-above, keep-append, kept-one}
-use Rattle.graph.proofs.Marks.{Marked, each-length, fanins-length, fanins-only}
+use Rattle.graph.proofs.Marks.{Marked, each-length, fanins-length}
 use Rattle.replacement.specs.Vanish.{countApart}
-use Rattle.replacement.proofs.Reach.{Fanin}
 
 -- ---- counting marks
 
@@ -58,46 +57,18 @@ module _ (net : Net) where
           ∙ sym (length-append (keep test (gather (λ j. suc (free net + j) ∷ []) k)) (keep test (suc (free net + k) ∷ [])))
           ∙ ap length (sym (keep-append test (gather (λ j. suc (free net + j) ∷ []) k) (suc (free net + k) ∷ [])))
 
-  pub apart-has : (ms ns : List Bool) (v : ℕ) → IsGate net v → Marked ms v → getD ns v false ≡ false
-      → (k : ℕ) → k ≤ size net → v ≤ free net + k → 1 ≤ countApart net ms ns k
+  -- as much is apart where the second lists have the same marks, and the first lists wherever those have none
+  pub apart-same : (ms ns ms′ ns′ : List Bool) → ((v : ℕ) → IsGate net v → getD ns v false ≡ getD ns′ v false)
+      → ((v : ℕ) → IsGate net v → ¬ Marked ns v → getD ms v false ≡ getD ms′ v false)
+      → (k : ℕ) → k ≤ size net → countApart net ms ns k ≡ countApart net ms′ ns′ k
   unfolding countApart
-  apart-has ms ns v i m n zero h l = absurd (let a = i .above in omega arith)
-  apart-has ms ns v i m n (suc k) h l = ⊎-elim
-      (λ q. let r = apart-has ms ns v i m n k (omega arith) q in omega arith)
-      (λ q. let e : var k ≡ v = omega arith in
-      let c : cond {A = ℕ} (getD ns (var k) false) 0 (cond (getD ms (var k) false) 1 0) ≡ 1 = rw (e, n, m) in omega arith)
-      (at-most-or-above v (free net + k))
-
-  -- beyond a place where nothing more is apart the count stays
-  pub apart-stays : (ms ns : List Bool) (j : ℕ) → ((v : ℕ) → IsGate net v → free net + j < v → Marked ms v → Marked ns v)
-      → (k : ℕ) → j ≤ k → k ≤ size net → countApart net ms ns k ≡ countApart net ms ns j
-  unfolding countApart
-  apart-stays ms ns j f zero l h = let e : j ≡ 0 = omega arith in rw e
-  apart-stays ms ns j f (suc k) l h = ⊎-elim
-      (λ q. let c = apart-stays ms ns j f k q (omega arith) in
-      omega (arith, none (getD ms (var k) false) (getD ns (var k) false) (f (var k) (var-gate k h) (omega arith))))
-      (λ q. let e : j ≡ suc k = omega arith in rw e)
-      (at-most-or-above j k)
+  apart-same ms ns ms′ ns′ e f zero h = refl
+  apart-same ms ns ms′ ns′ e f (suc k) h =
+      let i = var-gate k h in ap₂ _+_ (apart-same ms ns ms′ ns′ e f k (omega arith)) (one _ _ _ _ (e (var k) i) (f (var k) i))
     where
-      none : (m n : Bool) → (m ≡ true → n ≡ true) → cond {A = ℕ} n 0 (cond m 1 0) ≡ 0
-      none true n f = rw (f refl)
-      none false true f = refl
-      none false false f = refl
-
-  -- with more marks in the first list no less is apart
-  pub apart-more : (ms ms′ ns : List Bool) → ((v : ℕ) → IsGate net v → Marked ms v → Marked ms′ v)
-      → (k : ℕ) → k ≤ size net → countApart net ms ns k ≤ countApart net ms′ ns k
-  unfolding countApart
-  apart-more ms ms′ ns f zero h = le-refl 0
-  apart-more ms ms′ ns f (suc k) h =
-      let c = apart-more ms ms′ ns f k (omega arith) in
-      omega (arith, one (getD ms (var k) false) (getD ms′ (var k) false) (getD ns (var k) false) (f (var k) (var-gate k h)))
-    where
-      one : (a b n : Bool) → (a ≡ true → b ≡ true) → cond {A = ℕ} n 0 (cond a 1 0) ≤ cond n 0 (cond b 1 0)
-      one a b true f = le-refl 0
-      one true b false f = rw (f refl) (le-refl 1)
-      one false true false f = omega arith
-      one false false false f = le-refl 0
+      one : (m n m′ n′ : Bool) → n ≡ n′ → (¬ (n ≡ true) → m ≡ m′) → cond {A = ℕ} n 0 (cond m 1 0) ≡ cond n′ 0 (cond m′ 1 0)
+      one m true m′ n′ e f = rw (← e)
+      one m false m′ n′ e f = rw (← e, f false≢true)
 
   -- two lists with the same marks but at the root
   module _ (ms ns : List Bool) (root : ℕ) (gate : IsGate net root)
@@ -139,14 +110,3 @@ down-length net (suc k) ms = down-length net k _ ∙ fanins-length net (suc (fre
 pub marks-length : (g : Graph) → length (marks g) ≡ suc (last (g .net))
 unfolding marks
 marks-length g = down-length (g .net) (size (g .net)) _ ∙ each-length (sinks g) _ ∙ length-replicate (suc (last (g .net))) false
-
--- what holds of the marks, and of a gate's fanins where it holds of the gate, holds of the marks after a pass over the first k gates
-pub down-only : (net : Net) (Q : ℕ → Type 0) (k : ℕ) (ms : List Bool) → k ≤ size net
-    → ((v u : ℕ) → IsGate net v → v ≤ free net + k → Q v → Fanin net v u → Q u)
-    → ((v : ℕ) → Marked ms v → Q v) → (v : ℕ) → Marked (markDown net k ms) v → Q v
-unfolding markDown
-down-only net Q zero ms h closed start v m = start v m
-down-only net Q (suc k) ms h closed start v m =
-    down-only net Q k (markFanins net (suc (free net + k)) ms) (omega arith) (λ t u i l. closed t u i (omega arith))
-    (λ u n. ⊎-elim (λ s. start u s) (λ s. closed (suc (free net + k)) u (var-gate net k h) (omega arith) (start _ (s .0)) (s .1))
-    (fanins-only net (suc (free net + k)) ms u n)) v m

@@ -39,10 +39,6 @@ module _ (g : Graph) (ok : Lawful g) (root : ℕ) (used : InUse g root) (p : Pro
   pub gain-bound : (n : ℕ) → gain g root p ≡ pos n → n + newGates p ≤ vanishing g root
   gain-bound n e = let h = difference (vanishing g root) (newGates p + heldBack g root p) n (sym gain-law ∙ e) in omega arith
 
-  -- the same of the numbers of gates, whatever the sign
-  pub gain-at-most : usedGates g + newGates p ≤ usedGates (finished g root p) + vanishing g root
-  gain-at-most = omega (arith, gain-balance)
-
   -- an AND gains only where a gate besides the root goes
   pub and-gain-needs-two : p .kind ≡ 1 → atLeastOne (gain g root p) ≡ true → 2 ≤ vanishing g root
   and-gain-needs-two k e = omega (arith, gain-iff-more-vanish .0 e, new-and p k)

@@ -11,7 +11,7 @@ use borrow.Author.Tests.{eq-eqb, ne-eqb}
 use lib.Dec.{eqb}
 use lib.ListN.{length, getD, length-map}
 use Rattle.graph.specs.Literal.{varOf}
-use Rattle.graph.specs.Graph.{Net, Graph, sinks, first, second, IsGate, Lawful}
+use Rattle.graph.specs.Graph.{Net, Graph, over, sinks, first, second, IsGate, Lawful}
 use Rattle.graph.specs.Use.{Reached, as-output, as-first, as-second}
 use Rattle.graph.proofs.Lists.{at-most-or-above, equal-or-not}
 use Rattle.graph.proofs.Members.{map-at}
@@ -20,7 +20,16 @@ use Rattle.graph.proofs.Use.{first-lower, second-lower}
 use Rattle.replacement.specs.declared.types.Proposal.{Proposal}
 use Rattle.replacement.specs.Rewire.{Wires, to-literal, to-and, standIn, redirected, rewiredNet, rewired}
 use Rattle.replacement.specs.Vanish.{Without, by-output, by-first, by-second, literals, From}
-use Rattle.replacement.proofs.Rewire.{literal-stands, root-stands, redirected-root, redirected-other, rewired-size, rewired-free, other-gate, and-root}
+use Rattle.replacement.proofs.Rewire.{
+  literal-stands,
+  root-stands,
+  redirected-root,
+  redirected-other,
+  rewired-size,
+  rewired-free,
+  other-gate,
+  and-root,
+}
 
 -- ---- reached by fanins, whichever of the two
 
@@ -85,14 +94,14 @@ module _ (net : Net) (v x y : ℕ) (a : first net v ≡ max x y) (b : second net
 -- ---- the proposal's literals and what they reach lie below the root
 
 module _ (g : Graph) (root : ℕ) (p : Proposal) where
-  pub from-named : (u : ℕ) → Named p u → From (g .net) p u
+  from-named : (u : ℕ) → Named p u → From (g .net) p u
   from-named u n = subst (From (g .net) p) (n .names) (as-output (n .place) (n .within))
 
   -- from the literals on down
   pub by-from : (P : ℕ → Type 0) → ((u : ℕ) → Named p u → P u)
       → ((v u : ℕ) → IsGate (g .net) v → From (g .net) p v → P v → Fanin (g .net) v u → P u) → (v : ℕ) → From (g .net) p v → P v
   by-from P named step =
-      by-reach (record { net = g .net; outputs = literals p }) P (λ j h. named _ (record { place = j; within = h; names = refl })) step
+      by-reach (over (g .net) (literals p)) P (λ j h. named _ (record { place = j; within = h; names = refl })) step
 
   module _ (ok : Lawful g) (low : (u : ℕ) → Named p u → u < root) where
     pub from-below : (v : ℕ) → From (g .net) p v → v < root

@@ -1,6 +1,6 @@
 -- What goes with a root, and what of it a proposal holds back: the terms of the gain law.
 -- Assumes nothing.
-use Prim.Native.Nat.{ℕ, zero, suc, _+_, _-_, _<_}
+use Prim.Native.Nat.{ℕ, zero, suc, _+_, _<_}
 use mathlib.Core.Path.{_≡_}
 use mathlib.Core.Bool.{Bool, true, false, cond}
 use mathlib.Core.List.{List, [], _∷_, map}
@@ -8,8 +8,8 @@ use mathlib.Core.Logic.{_↔_}
 use lib.Dec.{eqb}
 use lib.ListN.{length, getD, replicate}
 use Rattle.graph.specs.Literal.{varOf}
-use Rattle.graph.specs.Graph.{Net, Graph, free, size, last, sinks, first, second, IsGate, Lawful}
-use Rattle.graph.specs.Use.{Reached, InUse, markEach, markDown, marks}
+use Rattle.graph.specs.Graph.{Net, Graph, over, free, size, last, sinks, first, second, IsGate, Lawful}
+use Rattle.graph.specs.Use.{Reached, InUse, markEach, marks}
 use Rattle.replacement.specs.declared.types.Proposal.{Proposal}
 
 -- reached through no reference to the root
@@ -25,7 +25,7 @@ abbrev pub literals : Proposal → List ℕ
 literals p = p .first .0 ∷ p .second .0 ∷ []
 
 abbrev pub From : Net → Proposal → ℕ → Type 0
-From net p v = Reached (record { net = net; outputs = literals p }) v
+From net p v = Reached (over net (literals p)) v
 
 -- how many gates the proposal puts at the root
 unfoldable pub newGates : Proposal → ℕ
@@ -50,11 +50,6 @@ unfolding markEach markDownPast
 marksWithout g root =
     markDownPast (g .net) root (size (g .net)) (markEach (map (past root) (sinks g)) (replicate (suc (last (g .net))) false))
 
--- on top of these, the proposal's literals and all below them: one pass, from the gate before the root down
-unfoldable pub marksBeside : Graph → ℕ → Proposal → List Bool
-unfolding marksWithout markEach markDown
-marksBeside g root p = markDown (g .net) (root - suc (free (g .net))) (markEach (literals p) (marksWithout g root))
-
 -- how many of the first k gates have a mark in the first list and none in the second
 unfoldable pub countApart : Net → List Bool → List Bool → ℕ → ℕ
 countApart net ms ns zero = 0
@@ -66,21 +61,21 @@ unfoldable pub vanishing : Graph → ℕ → ℕ
 unfolding countApart marks marksWithout
 vanishing g root = countApart (g .net) (marks g) (marksWithout g root) (size (g .net))
 
+-- how many gates without a mark these literals reach
+unfoldable pub heldFrom : Net → List Bool → List ℕ → ℕ
+unfolding countApart marks
+heldFrom net ms ls = countApart net (marks (over net ls)) ms (size net)
+
 -- how many of the gates that would go the proposal's literals reach (`held-back-counts`)
 unfoldable pub heldBack : Graph → ℕ → Proposal → ℕ
-unfolding countApart marksBeside marksWithout
-heldBack g root p = countApart (g .net) (marksBeside g root p) (marksWithout g root) (size (g .net))
+unfolding heldFrom marksWithout
+heldBack g root p = heldFrom (g .net) (marksWithout g root) (literals p)
 
 -- ---- the same by marks that lent memory holds
 
 -- each gate's mark says whether it is reached through no reference to the root
 pub record MarksPast (g : Graph) (root : ℕ) (ms : List Bool) : Type 0 where
   pub marks-are : (v : ℕ) → IsGate (g .net) v → (getD ms v false ≡ true) ↔ Without g root v
-
--- how many gates without a mark these literals reach
-unfoldable pub heldFrom : Net → List Bool → List ℕ → ℕ
-unfolding countApart marks
-heldFrom net ms ls = countApart net (marks (record { net = net; outputs = ls })) ms (size net)
 
 -- a root in use, its marks, and how many gates go with it: what the gain of a proposal is found from (`weighed-gain`)
 pub record Weighed (g : Graph) (root : ℕ) (ms : List Bool) (going : ℕ) : Type 0 where
