@@ -11,7 +11,7 @@ use lib.Seq.{getD-set-same, getD-set-other}
 use Rattle.graph.specs.declared.refusal.Refusal.the-variants.{NoRoom}
 use Rattle.graph.specs.Literal.{varOf}
 use Rattle.graph.specs.Lent.{short, written, Buffers, buffersOf, noRoomFor, storedIn, _leaving_}
-use Rattle.graph.specs.Graph.{Net, Graph, size, last, IsGate, Lawful, WellFormed, WellFormedNet}
+use Rattle.graph.specs.Graph.{Net, Graph, over, size, last, IsGate, Lawful, WellFormed, WellFormedNet}
 use Rattle.graph.specs.Use.{marks, InUse, countMarks}
 use Rattle.graph.specs.Drop.{dropped}
 use Rattle.graph.proofs.Graph.{net-well-formed, sinks-below}
@@ -26,7 +26,6 @@ use Rattle.replacement.proofs.Reach.{named-below}
 use Rattle.replacement.proofs.Weighed.{kept-iff}
 use Rattle.replacement.proofs.Finished.{finished-sinks}
 use Rattle.weigher.specs.Held.{setEach, Holding}
-use Rattle.weigher.proofs.Steps.{over}
 use Rattle.weigher.proofs.Walk.{walk-marks, listed-all}
 use Rattle.weigher.proofs.Weighing.{closed-past}
 use Rattle.replacer.specs.Finishing.{KeptMarks, KeptPast, newNumbers, byNumbers, keptGates, finishEffect}
@@ -122,7 +121,7 @@ module _ (g : Graph) (ok : WellFormed g) (root : ℕ) (gate : IsGate (g .net) ro
         (rewired-numbers-at (g .net) root p kept (replicate n 0))
         (rewired-within (g .net) root p (net-well-formed g ok) gate wires)
 
-    pub finished-outputs-are : map (λ l. byNumbers numbers (redirected root p l)) (g .outputs) ≡ finished g root p .outputs
+    finished-outputs-are : map (λ l. byNumbers numbers (redirected root p l)) (g .outputs) ≡ finished g root p .outputs
     unfolding finished dropped rewired
     finished-outputs-are =
         outputs-are (rewiredNet (g .net) root p) kept (marks (rewired g root p)) same _
@@ -135,7 +134,7 @@ module _ (g : Graph) (ok : WellFormed g) (root : ℕ) (gate : IsGate (g .net) ro
           rewired-free (g .net) root p,
         ))
 
-    pub words-needed : length (keptGates (rewiredNet (g .net) root p) kept numbers) ≡ 2 * countMarks (g .net) kept (size (g .net))
+    words-needed : length (keptGates (rewiredNet (g .net) root p) kept numbers) ≡ 2 * countMarks (g .net) kept (size (g .net))
     words-needed =
         kept-count (rewiredNet (g .net) root p) kept numbers
         ∙ ap (λ (k : ℕ). 2 * countMarks (rewiredNet (g .net) root p) kept k) (rewired-size (g .net) root p)

@@ -9,12 +9,12 @@ use Rattle.graph.specs.Lists.{gather}
 use Rattle.graph.specs.Literal.{varOf}
 use Rattle.graph.specs.Lent.{Buffers, noRoomFor, Effect, _leaving_}
 use Rattle.graph.specs.declared.refusal.Refusal.the-variants.{NoGain, NoRoom}
-use Rattle.graph.specs.Graph.{Net, Graph, free, size, last, first, second, IsGate, Lawful, WellFormedNet}
+use Rattle.graph.specs.Graph.{Net, Graph, over, free, size, last, first, second, IsGate, Lawful, WellFormedNet}
 use Rattle.graph.specs.Use.{InUse, marks}
 use Rattle.graph.specs.Drop.{newNumber}
 use Rattle.replacement.specs.declared.types.Proposal.{Proposal}
 use Rattle.replacement.specs.declared.types.Applied.{Applied}
-use Rattle.replacement.specs.Rewire.{Wires, rewiredNet, rewired, finished, gain, atLeastOne}
+use Rattle.replacement.specs.Rewire.{Wires, rewired, finished, gain, atLeastOne}
 use Rattle.replacement.specs.Calls.{leftIn}
 use Rattle.replacement.specs.Vanish.{MarksPast}
 
@@ -25,9 +25,8 @@ pub record KeptMarks (g : Graph) (root : ℕ) (p : Proposal) (kept : List Bool) 
 -- such marks come of those past the root, whatever graph over the net these are of
 abbrev pub KeptPast : Net → List Bool → ℕ → Proposal → List Bool → Type 0
 KeptPast net ms root p kept =
-    (outputs : List ℕ) → let g : Graph = record { net = net; outputs = outputs } in
-    Lawful g → InUse g root → MarksPast g root ms
-    → KeptMarks g root p kept
+    (outputs : List ℕ) → Lawful (over net outputs) → InUse (over net outputs) root → MarksPast (over net outputs) root ms
+    → KeptMarks (over net outputs) root p kept
 
 -- the new numbers of all variables
 unfoldable pub newNumbers : Net → List Bool → List ℕ

@@ -12,7 +12,7 @@ use borrow.Author.Tests.{lt-ltb, le-ltb}
 use lib.ListN.{length, getD, set, take, length-set, List·getD-eq-default}
 use lib.Seq.{getD-set-same, getD-set-other, take-suc, take-suc-set, ext-getD}
 use Rattle.graph.specs.Lists.{_∈_, here, later}
-use Rattle.graph.specs.Graph.{Net, Graph, free, size, last, IsGate}
+use Rattle.graph.specs.Graph.{Net, over, free, size, last, IsGate}
 use Rattle.graph.specs.Use.{Reached, countMarks}
 use Rattle.graph.proofs.Lists.{at-most-or-above, equal-or-not, true-or-false}
 use Rattle.graph.proofs.Members.{place-of}
@@ -21,25 +21,21 @@ use Rattle.graph.proofs.Renumber.{count-most}
 use Rattle.replacement.proofs.Counts.{but-root}
 use Rattle.weigher.specs.Held.{setEach, unmarked, Walked, walkedTo, held}
 
--- the net with these literals for outputs
-abbrev pub over : Net → List ℕ → Graph
-over net ls = record { net = net; outputs = ls }
-
 -- ---- marks that are set or taken off one after another
 
-pub each-length : (b : Bool) (vs : List ℕ) (ms : List Bool) → length (setEach b vs ms) ≡ length ms
+pub set-each-length : (b : Bool) (vs : List ℕ) (ms : List Bool) → length (setEach b vs ms) ≡ length ms
 unfolding setEach
-each-length b [] ms = refl
-each-length b (v ∷ vs) ms = each-length b vs (set ms v b) ∙ length-set ms v b
+set-each-length b [] ms = refl
+set-each-length b (v ∷ vs) ms = set-each-length b vs (set ms v b) ∙ length-set ms v b
 
-pub each-more : (b : Bool) (vs : List ℕ) (v : ℕ) (ms : List Bool) → setEach b (vs ++ (v ∷ [])) ms ≡ set (setEach b vs ms) v b
+set-each-more : (b : Bool) (vs : List ℕ) (v : ℕ) (ms : List Bool) → setEach b (vs ++ (v ∷ [])) ms ≡ set (setEach b vs ms) v b
 unfolding setEach
-each-more b [] v ms = refl
-each-more b (u ∷ vs) v ms = each-more b vs v (set ms u b)
+set-each-more b [] v ms = refl
+set-each-more b (u ∷ vs) v ms = set-each-more b vs v (set ms u b)
 
-pub each-next : (b : Bool) (vs : List ℕ) (k : ℕ) (ms : List Bool) → k < length vs
+pub set-each-next : (b : Bool) (vs : List ℕ) (k : ℕ) (ms : List Bool) → k < length vs
     → set (setEach b (take k vs) ms) (getD vs k 0) b ≡ setEach b (take (k + 1) vs) ms
-each-next b vs k ms h = rw (add-one k, take-suc vs k 0 h) (sym (each-more b (take k vs) (getD vs k 0) ms))
+set-each-next b vs k ms h = rw (add-one k, take-suc vs k 0 h) (sym (set-each-more b (take k vs) (getD vs k 0) ms))
 
 -- the mark of a variable that is not listed stays
 listed-or-not : (vs : List ℕ) (u : ℕ)
@@ -64,17 +60,17 @@ marked-within ms u m = ⊎-elim
     (λ h. absurd (false≢true (sym (List·getD-eq-default ms false h) ∙ m))) (λ h. h) (at-most-or-above (length ms) u)
 
 module _ (vs : List ℕ) (ms : List Bool) where
-  pub each-keeps : (u : ℕ) → Marked ms u → Marked (setEach true vs ms) u
-  each-keeps u m = ⊎-elim (λ l. listed-has true vs ms u (marked-within ms u m) l) (λ k. k true ms ∙ m) (listed-or-not vs u)
+  pub set-each-keeps : (u : ℕ) → Marked ms u → Marked (setEach true vs ms) u
+  set-each-keeps u m = ⊎-elim (λ l. listed-has true vs ms u (marked-within ms u m) l) (λ k. k true ms ∙ m) (listed-or-not vs u)
 
-  pub each-only : (u : ℕ) → Marked (setEach true vs ms) u → (u ∈ vs) ⊎ Marked ms u
-  each-only u m = ⊎-elim (λ l. inl l) (λ k. inr (sym (k true ms) ∙ m)) (listed-or-not vs u)
+  pub set-each-only : (u : ℕ) → Marked (setEach true vs ms) u → (u ∈ vs) ⊎ Marked ms u
+  set-each-only u m = ⊎-elim (λ l. inl l) (λ k. inr (sym (k true ms) ∙ m)) (listed-or-not vs u)
 
   -- marks that were not there before are taken off again
-  pub each-undone : ((j : ℕ) → j < length vs → getD ms (getD vs j 0) false ≡ false) → setEach false vs (setEach true vs ms) ≡ ms
-  each-undone none =
-      let long = each-length false vs (setEach true vs ms) in
-      let same = each-length true vs ms in
+  pub set-each-undone : ((j : ℕ) → j < length vs → getD ms (getD vs j 0) false ≡ false) → setEach false vs (setEach true vs ms) ≡ ms
+  set-each-undone none =
+      let long = set-each-length false vs (setEach true vs ms) in
+      let same = set-each-length true vs ms in
       ext-getD false (setEach false vs (setEach true vs ms)) ms (long ∙ same) (λ i h. ⊎-elim
       (λ l. listed-has false vs (setEach true vs ms) i (omega arith) l ∙ sym (unset i l))
       (λ k. k false (setEach true vs ms) ∙ k true ms)
@@ -138,7 +134,7 @@ module _ (inputs v : ℕ) (s : Walked) where
         more = omega arith;
         same-list = λ j h. getD-set-other (s .list) (s .count) j v 0 (λ e. omega arith);
         same-room = length-set (s .list) (s .count) v;
-        keeps = unfold setEach in each-keeps (v ∷ []) (s .marks);
+        keeps = unfold setEach in set-each-keeps (v ∷ []) (s .marks);
       }
 
       go : Does inputs v s → Grown s (held inputs v s)
@@ -179,7 +175,7 @@ pub record Listing (net : Net) (ls : List ℕ) (ms : List Bool) (s : Walked) : T
   pub counted : countMarks net (s .marks) (size net) ≡ countMarks net ms (size net) + s .count
 
 pub marks-stay : (net : Net) (ls : List ℕ) (ms : List Bool) (s : Walked) → Listing net ls ms s → length (s .marks) ≡ length ms
-marks-stay net ls ms s l = ap length (l .marks-are) ∙ each-length true (take (s .count) (s .list)) ms
+marks-stay net ls ms s l = ap length (l .marks-are) ∙ set-each-length true (take (s .count) (s .list)) ms
 
 -- so many at most
 pub listed-most : {net : Net} {ls : List ℕ} {ms : List Bool} {s : Walked} → Listing net ls ms s → s .count ≤ size net
@@ -214,7 +210,7 @@ module _ (net : Net) (ls : List ℕ) (ms : List Bool) where
       listed-last i m =
           let on = getD-set-same (s .marks) v true false (omega (arith, marks-room)) in
           let none : getD ms v false ≡ false =
-          ⊎-elim (λ k. absurd (false≢true (sym m ∙ rw (before .marks-are) (each-keeps (take (s .count) (s .list)) ms v k)))) (λ k. k)
+          ⊎-elim (λ k. absurd (false≢true (sym m ∙ rw (before .marks-are) (set-each-keeps (take (s .count) (s .list)) ms v k)))) (λ k. k)
           (true-or-false (getD ms v false)) in
           let one = but-root net (set (s .marks) v true) (s .marks) v i (λ u j n. getD-set-other (s .marks) v u true false n) m in
           let more : cond {A = ℕ} (getD (set (s .marks) v true) v false) 1 0 ≡ 1 = rw on in
@@ -222,7 +218,7 @@ module _ (net : Net) (ls : List ℕ) (ms : List Bool) where
             fits = omega (arith, length-set (s .list) (s .count) v);
             marks-are =
                 ap (λ (ns : List Bool). set ns v true) (before .marks-are)
-                ∙ sym (each-more true (take (s .count) (s .list)) v ms)
+                ∙ sym (set-each-more true (take (s .count) (s .list)) v ms)
                 ∙ ap (λ (vs : List ℕ). setEach true vs ms) (sym (take-suc-set (s .list) (s .count) v space));
             gates = with-last (IsGate net) (before .gates) i;
             had-none = with-last (λ u. getD ms u false ≡ false) (before .had-none) none;

@@ -1,7 +1,7 @@
 -- Gates are listed and marked until the fanins of all that are listed are: then the marks that came are those of all that is reached.
 -- Assumes nothing.
-use mathlib.Core.Path.{_≡_, refl, sym, ap, ap₂, _∙_, subst}
-use mathlib.Core.Bool.{Bool, true, false, cond, false≢true}
+use mathlib.Core.Path.{_≡_, refl, sym, _∙_, subst}
+use mathlib.Core.Bool.{Bool, true, false}
 use mathlib.Core.List.{List, [], _∷_}
 use mathlib.Core.Logic.{_⊎_, inl, inr, ⊎-elim, _↔_}
 use Prim.Native.Nat.{ℕ, zero, suc, _+_, _≤_, _<_}
@@ -10,20 +10,20 @@ use native.Mathlib.Omega.{arith}
 use lib.ListN.{length, getD, take, length-take}
 use lib.Seq.{length-take-le, getD-take}
 use Rattle.graph.specs.Literal.{varOf}
-use Rattle.graph.specs.Graph.{Net, free, size, last, first, second, IsGate, Lawful}
+use Rattle.graph.specs.Graph.{Net, over, free, size, last, first, second, IsGate, Lawful}
 use Rattle.graph.specs.Use.{Reached, as-output, marks, countMarks}
 use Rattle.graph.proofs.Lists.{equal-or-not, same-tests}
 use Rattle.graph.proofs.Members.{place-of}
+use Rattle.graph.proofs.Graph.{over-lawful}
 use Rattle.graph.proofs.Marks.{Marked}
-use Rattle.graph.proofs.Use.{marked-reached, reached-marked}
-use Rattle.replacement.specs.Vanish.{countApart, heldFrom}
+use Rattle.graph.proofs.Use.{marked-iff}
+use Rattle.replacement.specs.Vanish.{heldFrom}
 use Rattle.replacement.proofs.Reach.{Fanin, by-fanin, by-reach, fanin-lower}
-use Rattle.replacement.proofs.Counts.{var, var-gate, apart}
+use Rattle.replacement.proofs.Counts.{apart, apart-same}
 use Rattle.weigher.specs.Held.{setEach, GateMarked, Walked, walkedTo, held, Holding, ClosedTo}
 use Rattle.weigher.proofs.Steps.{
-  over,
-  each-keeps,
-  each-only,
+  set-each-keeps,
+  set-each-only,
   Grown,
   grown-on,
   held-grows,
@@ -123,7 +123,7 @@ stage-holding net ls ms done s st =
     let at : (j : ℕ) → j < s .count → getD (s .list) j 0 ≡ getD vs j 0 = λ j h. sym (getD-take (s .count) (s .list) j 0 h) in
     let marks-of = subst (λ (ns : List Bool). countMarks net ns (size net) ≡ countMarks net ms (size net) + s .count)
     (l .marks-are) (l .counted) in
-    let more = apart net (setEach true vs ms) ms (λ v i m. each-keeps vs ms v m) (size net) (le-refl _) in
+    let more = apart net (setEach true vs ms) ms (λ v i m. set-each-keeps vs ms v m) (size net) (le-refl _) in
     record {
       gates = λ j h. subst (IsGate net) (at j (omega arith)) (l .gates j (omega arith));
       had-none = λ j h. subst (λ (u : ℕ). getD ms u false ≡ false) (at j (omega arith)) (l .had-none j (omega arith));
@@ -143,12 +143,6 @@ stage-holding net ls ms done s st =
 
 -- ---- the walk at its end: `done` are all that are listed
 
--- a lawful net with literals up to its last variable
-pub lawful-over : (net : Net) (ls : List ℕ) → Lawful (over net []) → ((j : ℕ) → j < length ls → varOf (getD ls j 0) ≤ last net)
-    → Lawful (over net ls)
-lawful-over net ls ok within =
-    record { even = ok .even; ordered = ok .ordered; below = ok .below; sinks-within = λ j h. omega (arith, within j h) }
-
 -- all of the first r in the list are listed gates
 module _ (net : Net) (ls : List ℕ) (ms : List Bool) (list : List ℕ) (r : ℕ) (walk : Holding net ls ms (take r list) r) where
   pub listed-fit : r ≤ length list
@@ -160,19 +154,6 @@ module _ (net : Net) (ls : List ℕ) (ms : List Bool) (list : List ℕ) (r : ℕ
   pub listed-gate : (j : ℕ) → j < r → IsGate net (getD list j 0)
   listed-gate j h = subst (IsGate net) (getD-take r list j 0 h) (walk .gates j (omega (arith, listed-all)))
 
--- where the last list has a mark the others do not matter
-apart-same : (net : Net) (ms ms′ ns : List Bool)
-    → ((v : ℕ) → IsGate net v → getD ns v false ≡ false → getD ms v false ≡ getD ms′ v false)
-    → (k : ℕ) → k ≤ size net → countApart net ms ns k ≡ countApart net ms′ ns k
-unfolding countApart
-apart-same net ms ms′ ns f zero h = refl
-apart-same net ms ms′ ns f (suc k) h =
-    ap₂ _+_ (apart-same net ms ms′ ns f k (omega arith)) (one (getD ns (var net k) false) _ _ (f (var net k) (var-gate net k h)))
-  where
-    one : (n a b : Bool) → (n ≡ false → a ≡ b) → cond {A = ℕ} n 0 (cond a 1 0) ≡ cond n 0 (cond b 1 0)
-    one true a b e = refl
-    one false a b e = ap (λ (c : Bool). cond {A = ℕ} c 1 0) (e refl)
-
 module _ (net : Net) (ls : List ℕ) (ms : List Bool) (vs : List ℕ) (ok : Lawful (over net [])) (top : ℕ) (closed : ClosedTo net top ms)
     (low : (j : ℕ) → j < length ls → varOf (getD ls j 0) ≤ top) (done : ℕ) (all : length vs ≤ done)
     (walk : Holding net ls ms vs done) where
@@ -183,10 +164,10 @@ module _ (net : Net) (ls : List ℕ) (ms : List Bool) (vs : List ℕ) (ok : Lawf
       let of : Fanin net (getD vs (q .0) 0) u = subst (λ (w : ℕ). Fanin net w u) (sym (q .2)) f in ⊎-elim
       (λ e. subst (GateMarked net (setEach true vs ms)) e (walk .firsts-marked (q .0) h) g)
       (λ e. subst (GateMarked net (setEach true vs ms)) e (walk .seconds-marked (q .0) h) g) of)
-      (λ k. each-keeps vs ms u (⊎-elim
+      (λ k. set-each-keeps vs ms u (⊎-elim
       (λ e. subst (GateMarked net ms) e (closed .first-marked v i l k) g)
       (λ e. subst (GateMarked net ms) e (closed .second-marked v i l k) g) f))
-      (each-only vs ms v m)
+      (set-each-only vs ms v m)
 
   reached-has-mark : (v : ℕ) → Reached (over net ls) v → (v ≤ top) × GateMarked net (setEach true vs ms) v
   reached-has-mark = by-reach (over net ls) (λ v. (v ≤ top) × GateMarked net (setEach true vs ms) v)
@@ -198,15 +179,15 @@ module _ (net : Net) (ls : List ℕ) (ms : List Bool) (vs : List ℕ) (ok : Lawf
   walk-marks v i = (
     λ m. ⊎-elim
         (λ p. let q = place-of 0 p in inr (subst (Reached (over net ls)) (q .2) (walk .reached (q .0) (q .1))))
-        (λ k. inl k) (each-only vs ms v m),
-    λ b. ⊎-elim (λ k. each-keeps vs ms v k) (λ r. reached-has-mark v r .1 i) b,
+        (λ k. inl k) (set-each-only vs ms v m),
+    λ b. ⊎-elim (λ k. set-each-keeps vs ms v k) (λ r. reached-has-mark v r .1 i) b,
   )
 
   -- those that are listed are all that the literals reach without a mark
   pub walk-counts : ((j : ℕ) → j < length ls → varOf (getD ls j 0) ≤ last net) → length vs ≡ heldFrom net ms ls
   unfolding heldFrom
   walk-counts within =
-      let lawful = lawful-over net ls ok within in
-      walk .counted ∙ apart-same net (setEach true vs ms) (marks (over net ls)) ms (λ v i n. same-tests _ _
-      (λ m. reached-marked (over net ls) lawful v (⊎-elim (λ k. absurd (false≢true (sym n ∙ k))) (λ r. r) (walk-marks v i .0 m)))
-      (λ m. walk-marks v i .1 (inr (marked-reached (over net ls) v m)))) (size net) (le-refl _)
+      let mark = marked-iff (over net ls) (over-lawful (over net []) ok ls within) in
+      walk .counted ∙ apart-same net (setEach true vs ms) ms (marks (over net ls)) ms (λ v i. refl) (λ v i n. same-tests _ _
+      (λ m. mark v .1 (⊎-elim (λ k. absurd (n k)) (λ r. r) (walk-marks v i .0 m)))
+      (λ m. walk-marks v i .1 (inr (mark v .0 m)))) (size net) (le-refl _)

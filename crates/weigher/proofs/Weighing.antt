@@ -8,7 +8,7 @@ use Prim.Native.Nat.{ℕ, zero, suc, _+_, _-_, _*_, _≤_, _<_}
 use native.Mathlib.Omega.{arith}
 use lib.ListN.{getD}
 use Rattle.graph.specs.Literal.{varOf}
-use Rattle.graph.specs.Graph.{Net, Graph, IsGate, Lawful}
+use Rattle.graph.specs.Graph.{Net, Graph, over, IsGate, Lawful}
 use Rattle.graph.proofs.Marks.{Marked}
 use Rattle.replacement.specs.declared.types.Proposal.{Proposal}
 use Rattle.replacement.specs.Vanish.{literals, newGates, MarksPast}
@@ -35,7 +35,7 @@ module _ (net : Net) (ms : List Bool) where
   -- what the root reaches without a mark goes with it
   pub going-counted : (root n : ℕ) {l : ℕ} → l ≡ 2 * root → CountsHeld net ms (l ∷ 0 ∷ []) n → GoingWith net ms root n
   going-counted root n {l} e held outputs ok used past =
-      let g : Graph = record { net = net; outputs = outputs } in
+      let g = over net outputs in
       (rw e at held) root (closed-past g ok root ms past) low ∙ held-root g ok root used ms past
     where
       low : (j : ℕ) → j < 2 → varOf (getD (2 * root ∷ 0 ∷ []) j 0) ≤ root
@@ -47,7 +47,7 @@ module _ (net : Net) (ms : List Bool) where
   pub gain-counted : (going : ℕ) (p : Proposal) (held : ℕ) → CountsHeld net ms (literals p) held → {n : ℕ}
       → n ≡ going - (newGates p + held) → Gains net ms going p n
   gain-counted going p held counts e outputs root w wires =
-      let g : Graph = record { net = net; outputs = outputs } in
+      let g = over net outputs in
       e
       ∙ ap (λ (h : ℕ). going - (newGates p + h)) (counts root (closed-past g (w .lawful) root ms (w .past))
       (λ j h. let l = named-below g root (w .used .is-gate) p wires _ (record { place = j; within = h; names = refl }) in omega arith))

@@ -7,7 +7,7 @@ use mathlib.Core.List.{List, [], _∷_}
 use lib.Dec.{ltb}
 use lib.ListN.{length, getD, set}
 use Rattle.graph.specs.Literal.{varOf}
-use Rattle.graph.specs.Graph.{Net, size, first, second, IsGate}
+use Rattle.graph.specs.Graph.{Net, over, size, first, second, IsGate}
 use Rattle.graph.specs.Use.{Reached}
 use Rattle.replacement.specs.Vanish.{countApart, heldFrom}
 
@@ -47,7 +47,7 @@ held inputs v s =
 pub record Holding (net : Net) (ls : List ℕ) (ms : List Bool) (vs : List ℕ) (done : ℕ) : Type 0 where
   pub gates : (j : ℕ) → j < length vs → IsGate net (getD vs j 0)
   pub had-none : (j : ℕ) → j < length vs → getD ms (getD vs j 0) false ≡ false
-  pub reached : (j : ℕ) → j < length vs → Reached (record { net = net; outputs = ls }) (getD vs j 0)
+  pub reached : (j : ℕ) → j < length vs → Reached (over net ls) (getD vs j 0)
   pub counted : length vs ≡ countApart net (setEach true vs ms) ms (size net)
   pub literals-marked : (j : ℕ) → j < length ls → GateMarked net (setEach true vs ms) (varOf (getD ls j 0))
   pub done-within : done ≤ length vs

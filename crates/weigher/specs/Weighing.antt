@@ -4,14 +4,11 @@ use Prim.Native.Nat.{ℕ}
 use mathlib.Core.Path.{_≡_}
 use mathlib.Core.Bool.{Bool}
 use mathlib.Core.List.{List}
-use Rattle.graph.specs.Graph.{Net, Graph, Lawful}
+use Rattle.graph.specs.Graph.{Net, over, Lawful}
 use Rattle.graph.specs.Use.{InUse}
 use Rattle.replacement.specs.declared.types.Proposal.{Proposal}
 use Rattle.replacement.specs.Rewire.{Wires, gain, positive}
 use Rattle.replacement.specs.Vanish.{MarksPast, vanishing, Weighed}
-
-abbrev over : Net → List ℕ → Graph
-over net outputs = record { net = net; outputs = outputs }
 
 -- n gates go with the root
 abbrev pub GoingWith : Net → List Bool → ℕ → ℕ → Type 0

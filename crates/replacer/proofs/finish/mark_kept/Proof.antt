@@ -11,7 +11,7 @@ use lib.ListN.{length, set, take}
 use Rattle.graph.specs.Graph.{Net, netOf}
 use Rattle.checker.specs.Marks.{marksIn}
 use Rattle.weigher.specs.Held.{setEach}
-use Rattle.weigher.proofs.Steps.{each-length}
+use Rattle.weigher.proofs.Steps.{set-each-length}
 use Rattle.replacer.specs.Finishing.{KeptPast}
 use Rattle.replacer.proofs.Finishing.{literals-within, literal-keeps, and-keeps}
 use Rattle.replacer.proofs.finish.mark_kept.Statement.{statement}
@@ -41,7 +41,7 @@ reached h = setEach true (take (h .hold-reached .result) (list h)) (given (start
 root-marked : (h : tie.After-hold-reached) → start h .args .root .0 < length (reached h)
 root-marked h =
     let s = start h in
-    let long = each-length true (take (h .hold-reached .result) (list h)) (given s) in
+    let long = set-each-length true (take (h .hold-reached .result) (list h)) (given s) in
     let gate = s .pre .1 .0 in
     omega (arith, long, s .pre .0)
 

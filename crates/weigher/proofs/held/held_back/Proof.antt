@@ -14,7 +14,7 @@ use Rattle.graph.specs.Graph.{Net, netOf, last}
 use Rattle.checker.specs.Marks.{marksIn}
 use Rattle.checker.proofs.Marking.{marks-length}
 use Rattle.weigher.specs.Held.{setEach}
-use Rattle.weigher.proofs.Steps.{each-undone}
+use Rattle.weigher.proofs.Steps.{set-each-undone}
 use Rattle.weigher.proofs.Walk.{listed-fit, listed-all, listed-gate, walk-counts}
 use Rattle.weigher.proofs.held.held_back.Statement.{statement}
 use Rattle.weigher.proofs.held.held_back.Tie as tie
@@ -75,7 +75,7 @@ returns c =
     let all = listed-all (net s) (literals s) (given s) (list h) r walk in (
       λ top closed low.
           sym all ∙ walk-counts (net s) (literals s) (given s) vs (s .pre .0 .0 .lawful) top closed low r (omega arith) walk (within s),
-      e .release .ensures ∙ ap (setEach false vs) (h .hold-reached .ensures .1) ∙ each-undone vs (given s) (walk .had-none),
+      e .release .ensures ∙ ap (setEach false vs) (h .hold-reached .ensures .1) ∙ set-each-undone vs (given s) (walk .had-none),
     )
 
 pub held-back-spec : {M : Type 1} → statement M

@@ -11,7 +11,7 @@ use lib.ListN.{length, getD, set, take}
 use Rattle.checker.specs.Marks.{marksIn}
 use Rattle.checker.proofs.Marking.{marks-length}
 use Rattle.weigher.specs.Held.{setEach}
-use Rattle.weigher.proofs.Steps.{each-next}
+use Rattle.weigher.proofs.Steps.{set-each-next}
 use Rattle.weigher.proofs.held.release.Statement.{statement}
 use Rattle.weigher.proofs.held.release.Tie as tie
 
@@ -51,7 +51,7 @@ loop-again c =
     let l = m .before .before .before .before in
     let s = l .before .before .before in
     let list = now (s .args .list) in
-    let next = each-next false list (l .loop .k) (marksIn (now (s .args .marks))) (omega arith) in (
+    let next = set-each-next false list (l .loop .k) (marksIn (now (s .args .marks))) (omega arith) in (
       search needs,
       search needs,
       m .clear-mark .ensures ∙ ap (λ (ns : List Bool). set ns (getD list (l .loop .k) 0) false) (l .loop .inv .2) ∙ next,
