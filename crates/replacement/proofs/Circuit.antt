@@ -33,7 +33,7 @@ unfolding valuesUnder bools
 value-in net a n v h = values-at bools (assigned net a) net n v h
 
 -- so under every assignment of the inputs f computes the root's value
-pub computes-value : (net : Net) (w : Leaves) (root : ℕ) (f : List Bool → Bool) → Computes net w root f → covered net w root ≡ true
+computes-value : (net : Net) (w : Leaves) (root : ℕ) (f : List Bool → Bool) → Computes net w root f → covered net w root ≡ true
     → (a : ℕ → Bool) → f (valuesUnder net a root) ≡ valueUnder net a root
 computes-value net w root f c cut a =
     let leaf : ℕ → Bool = λ j. valueUnder net a (getD (leafList w) j 0) in

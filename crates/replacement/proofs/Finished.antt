@@ -38,7 +38,7 @@ module _ (g : Graph) (ok : Lawful g) (root : ℕ) (gate : IsGate (g .net) root) 
   lawful : Lawful (rewired g root p)
   lawful = rewired-lawful g ok root gate p (wires-of (g .net) root w p rule)
 
-  pub finished-lawful : Lawful (finished g root p)
+  finished-lawful : Lawful (finished g root p)
   unfolding finished
   finished-lawful = dropped-lawful (rewired g root p) lawful
 
@@ -47,7 +47,7 @@ module _ (g : Graph) (ok : Lawful g) (root : ℕ) (gate : IsGate (g .net) root) 
   finished-all-reached = dropped-all-reached (rewired g root p) lawful
 
   -- R afterwards is the number of gates
-  pub finished-size : size (finished g root p .net) ≡ usedGates (finished g root p)
+  finished-size : size (finished g root p .net) ≡ usedGates (finished g root p)
   unfolding finished
   finished-size = dropped-size (rewired g root p) ∙ sym (dropped-uses (rewired g root p) lawful)
 

@@ -15,7 +15,7 @@ abbrev pub GateOver : Net → ℕ → ℕ → ℕ → Type 0
 GateOver net v a b = (first net v ≡ max a b) × (second net v ≡ min a b)
 
 -- n gates after i inputs, where the piece of gate v is f v
-abbrev pub ofPieces : ℕ → (ℕ → List ℕ) → ℕ → Net
+abbrev ofPieces : ℕ → (ℕ → List ℕ) → ℕ → Net
 ofPieces i f n = netOf i (gather (λ k. f (suc (i + k))) n)
 
 module _ (i : ℕ) (f : ℕ → List ℕ) (two : (v : ℕ) → length (f v) ≡ 2) (n : ℕ) where
@@ -28,11 +28,11 @@ module _ (i : ℕ) (f : ℕ → List ℕ) (two : (v : ℕ) → length (f v) ≡ 
         let e : suc (i + (v - suc i)) ≡ v = omega arith in
         getD-gather 2 (λ k. f (suc (i + k))) (λ k. two (suc (i + k))) n (v - suc i) j 0 (omega arith) b ∙ ap (λ (u : ℕ). getD (f u) j 0) e
 
-    pub pieces-first : first (ofPieces i f n) v ≡ getD (f v) 0 0
+    pieces-first : first (ofPieces i f n) v ≡ getD (f v) 0 0
     unfolding first
     pieces-first = ap (λ (j : ℕ). getD (ofPieces i f n .gates) j 0) (omega arith) ∙ word-at 0 (omega arith)
 
-    pub pieces-second : second (ofPieces i f n) v ≡ getD (f v) 1 0
+    pieces-second : second (ofPieces i f n) v ≡ getD (f v) 1 0
     unfolding second
     pieces-second = ap (λ (j : ℕ). getD (ofPieces i f n .gates) j 0) (omega arith) ∙ word-at 1 (omega arith)
 

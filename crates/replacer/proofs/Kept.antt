@@ -93,7 +93,7 @@ module _ (net : Net) (ms : List Bool) where
   all-numbers = length-singles (newNumber net ms) (suc (last net))
 
   module _ (lent : List ℕ) where
-    pub numbers-at : (v : ℕ) → v ≤ last net → getD (written (newNumbers net ms) lent) v 0 ≡ newNumber net ms v
+    numbers-at : (v : ℕ) → v ≤ last net → getD (written (newNumbers net ms) lent) v 0 ≡ newNumber net ms v
     unfolding newNumbers
     numbers-at v h =
         written-at (newNumbers net ms) lent v 0 (omega (arith, all-numbers))
@@ -116,11 +116,11 @@ module _ (net : Net) (root : ℕ) (p : Proposal) (ms : List Bool) where
   pub same-counts : (k : ℕ) → countMarks (rewiredNet net root p) ms k ≡ countMarks net ms k
   same-counts = same-count (rewiredNet net root p) net ms (rewired-free net root p)
 
-  pub same-number : (v : ℕ) → newNumber (rewiredNet net root p) ms v ≡ newNumber net ms v
+  same-number : (v : ℕ) → newNumber (rewiredNet net root p) ms v ≡ newNumber net ms v
   unfolding newNumber rewiredNet
   same-number v = ap (λ (c : ℕ). cond (leb v (free net)) v (free net + c)) (same-counts (v - free net))
 
-  pub same-numbers : newNumbers (rewiredNet net root p) ms ≡ newNumbers net ms
+  same-numbers : newNumbers (rewiredNet net root p) ms ≡ newNumbers net ms
   unfolding newNumbers
   same-numbers =
       let n = rewired-size net root p in
@@ -165,10 +165,10 @@ module _ (net : Net) (ms : List Bool) (ns : List ℕ) where
 -- ---- the definition's gates and outputs
 
 -- the fanins of gates have numbers
-abbrev pub FaninsWithin : Net → Type 0
+abbrev FaninsWithin : Net → Type 0
 FaninsWithin net = (v : ℕ) → IsGate net v → (varOf (first net v) ≤ last net) × (varOf (second net v) ≤ last net)
 
-pub lawful-within : (g : Graph) → Lawful g → FaninsWithin (g .net)
+lawful-within : (g : Graph) → Lawful g → FaninsWithin (g .net)
 lawful-within g ok v i =
     let w = i .within in let o = ok .ordered v i in let b = ok .below v i in (omega arith, omega arith)
 
