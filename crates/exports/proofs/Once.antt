@@ -66,10 +66,10 @@ module _ (inputs : ℕ) (gates outputs : List ℕ) (root : ℕ) (before : List �
 module _ (inputs : ℕ) (gates outputs : List ℕ) (root : ℕ) (w : Leaves) (p : Proposal) (words results before : List ℕ) where
   -- r is the number, a and o are the counts, gs and os are the lent lists
   pub apply-numbers-have-one-result : (r a o : ℕ) (gs os : List ℕ) (r′ a′ o′ : ℕ) (gs′ os′ : List ℕ)
-      → Told (appliedNumbers inputs gates outputs root w p words results) ((applies inputs gates outputs root w p words results) .lent) before
-      r (a ∷ o ∷ []) (buffersOf gs os)
-      → Told (appliedNumbers inputs gates outputs root w p words results) ((applies inputs gates outputs root w p words results) .lent) before
-      r′ (a′ ∷ o′ ∷ []) (buffersOf gs′ os′)
+      → Told (appliedNumbers inputs gates outputs root w p words results)
+      ((applies inputs gates outputs root w p words results) .lent) before r (a ∷ o ∷ []) (buffersOf gs os)
+      → Told (appliedNumbers inputs gates outputs root w p words results)
+      ((applies inputs gates outputs root w p words results) .lent) before r′ (a′ ∷ o′ ∷ []) (buffersOf gs′ os′)
       → (r ≡ r′) × (a ≡ a′) × (o ≡ o′) × (gs ≡ gs′) × (os ≡ os′)
   apply-numbers-have-one-result r a o gs os r′ a′ o′ gs′ os′ m n =
       let lists = m .lists ∙ sym (n .lists) in

@@ -1,4 +1,5 @@
--- A kind's rule, test by test in the code's order; and by what a sweep has left which variables are covered and what a proposal's table is.
+-- A kind's rule, test by test in the code's order; and by what a sweep has left which variables are covered and what
+-- a proposal's table is.
 -- Assumes nothing.
 use mathlib.Core.Path.{_≡_, refl, sym, ap, ap₂, _∙_}
 use mathlib.Core.Bool.{Bool, true, false, cond, _&&_}

@@ -19,7 +19,17 @@ use Rattle.replacement.specs.Proposal.{proposedValue}
 use Rattle.replacement.specs.Rewire.{Wires, to-literal, to-and, standIn, redirected, rewired}
 use Rattle.replacement.proofs.Circuit.{Replaced}
 use Rattle.replacement.proofs.Proposal.{value-of-literal, value-of-and}
-use Rattle.replacement.proofs.Rewire.{literal-stands, root-stands, redirected-root, redirected-other, rewired-size, rewired-free, other-gate, and-root, rewired-lawful}
+use Rattle.replacement.proofs.Rewire.{
+  literal-stands,
+  root-stands,
+  redirected-root,
+  redirected-other,
+  rewired-size,
+  rewired-free,
+  other-gate,
+  and-root,
+  rewired-lawful,
+}
 
 -- the literal that stands for variable v afterwards
 pub standFor : ℕ → Proposal → ℕ → ℕ

@@ -1,4 +1,5 @@
--- `judge::divides` meets its contract: a variable from the root on does not divide it, and of one below it the list says whether it is covered.
+-- `judge::divides` meets its contract: a variable from the root on does not divide it, and of one below it the list
+-- says whether it is covered.
 -- Assumes nothing.
 use mathlib.Core.Path.{ap, _∙_}
 use mathlib.Core.Bool.{Bool, false}

@@ -52,7 +52,8 @@ returns-4 : tie.Need-returns-4
 returns-4 c =
     let d = c .before in
     let s = start (variables (d .before .before)) in
-    first-fails (covers s) (s .args .root .0) (s .args .proposal) (sym (d .divides .ensures) ∙ not-true (d .divides .result) (c .if4 .taken))
+    first-fails (covers s) (s .args .root .0) (s .args .proposal)
+    (sym (d .divides .ensures) ∙ not-true (d .divides .result) (c .if4 .taken))
 
 divides-requires-2 : tie.Need-divides-requires-2
 divides-requires-2 c κs = search needs

@@ -1,4 +1,5 @@
--- `replacer::store_finished` meets its contract: by the new numbers the words are the finished graph's, and the room is that of those words.
+-- `replacer::store_finished` meets its contract: by the new numbers the words are the finished graph's, and the room is that
+-- of those words.
 -- Assumes nothing.
 use mathlib.Core.Path.{_≡_, sym, ap, _∙_, subst⁻¹}
 use mathlib.Core.Bool.{Bool, true, false}

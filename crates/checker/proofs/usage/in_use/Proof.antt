@@ -65,8 +65,12 @@ slice-aggregate-mark-after c = search needs
 mark-after-requires : tie.Need-mark-after-requires
 mark-after-requires c κs =
     let m = c .before .before .before in
-    let s = start-of m in
-    (net-well-formed (graph s) (s .pre), omega (arith, c .before .at3 .ensures), omega arith, omega (arith, marks-length (m .mark-each .last .1 .0)))
+    let s = start-of m in (
+      net-well-formed (graph s) (s .pre),
+      omega (arith, c .before .at3 .ensures),
+      omega arith,
+      omega (arith, marks-length (m .mark-each .last .1 .0)),
+    )
 
 slice-aggregate-has-mark : tie.Need-slice-aggregate-has-mark
 slice-aggregate-has-mark c = search needs

@@ -48,7 +48,13 @@ hold-requires-2 c κs =
     let f = fanins-at h in
     let s = start f in
     let lower = second-lower _ (s .pre .0 .lawful) (s .args .v .0) (s .pre .1) in (
-      omega (arith, v .var2 .ensures, f .fanins-of .ensures .1, marks-length (now (s .args .marks)), marks-length (h .hold .last .1 .1 .0)),
+      omega (
+        arith,
+        v .var2 .ensures,
+        f .fanins-of .ensures .1,
+        marks-length (now (s .args .marks)),
+        marks-length (h .hold .last .1 .1 .0),
+      ),
       omega (arith, few-held _ _ _ (h .hold .ensures)),
     )
 
