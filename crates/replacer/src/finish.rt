@@ -12,7 +12,6 @@ ghost use Rattle.graph.specs.Use.{countMarks};
 ghost use Rattle.checker.specs.Marks.{marksIn};
 ghost use Rattle.replacement.specs.Rewire.{Wires, redirected, rewiredNet};
 ghost use Rattle.replacer.specs.Finishing.{KeptPast, newNumbers, SmallNumbers, byNumbers, keptWords, keptGates, Putting};
-use crate::rewire::redirected;
 use crate::rewire::rewired_gate;
 use checker::marks::has_mark;
 use checker::marks::set_mark;
@@ -20,7 +19,7 @@ use graph::Fanins;
 use graph::Lit;
 use graph::Var;
 use replacement::Proposal;
-use weigher::held::hold_reached;
+use weigher::held::mark_reached;
 
 // Beside the marks past the root, marks what is in use once it is replaced.
 pub fn mark_kept(
@@ -37,7 +36,7 @@ pub fn mark_kept(
     ensures { λ _. ⌜ KeptPast (netOf inputs (now (gates .entry))) (marksIn (now (marks .entry))) (root .0) proposal
         (marksIn (now (marks .exit))) ⌝ }
 {
-    hold_reached(inputs, gates, proposal.first, proposal.second, marks, list);
+    mark_reached(inputs, gates, proposal.first, proposal.second, marks, list);
     if proposal.kind != 0 {
         set_mark(marks, root);
     }
@@ -170,7 +169,7 @@ pub fn put_outputs(
 {
     let mut k = 0;
     while k < outputs.len() {
-        let l = redirected(root, proposal, Lit(outputs[k]));
+        let l = proposal.redirected(root, Lit(outputs[k]));
         results[k] = renumbered(numbers, l).0;
         k += 1;
     }

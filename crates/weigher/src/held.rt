@@ -1,5 +1,5 @@
-// Gates without a mark that literals reach. They are listed as they are found, so that nothing else is visited, and their marks can be
-// taken off again.
+// What a proposal holds back: the gates without a mark that its literals reach. They are listed as they are found, so that nothing else is
+// visited, and their marks can be taken off again.
 ghost use mathlib.Core.Path.{_≡_};
 ghost use mathlib.Core.Bool.{true, false};
 ghost use mathlib.Core.List.{[], _∷_};
@@ -17,7 +17,7 @@ use graph::Var;
 use graph::fanins_of;
 
 // A gate without a mark is marked, and put after the `count` that are listed; how many are listed then.
-fn hold(inputs: usize, v: Var, marks: &mut [bool], list: &mut [u32], count: usize) -> usize
+fn mark_new(inputs: usize, v: Var, marks: &mut [bool], list: &mut [u32], count: usize) -> usize
     requires { ⌜ (v .0 < length (marksIn (now marks))) × (count < length (now list)) ⌝ }
     ensures { λ r. ⌜ walkedTo (marksIn (now (marks .exit))) (now (list .exit)) r
         ≡ held inputs (v .0) (walkedTo (marksIn (now (marks .entry))) (now (list .entry)) count) ⌝ }
@@ -33,8 +33,8 @@ fn hold(inputs: usize, v: Var, marks: &mut [bool], list: &mut [u32], count: usiz
     count + 1
 }
 
-// So with the fanins of v's gate.
-fn hold_fanins(
+// The fanins of v's gate, each in this way.
+fn mark_new_fanins(
     inputs: usize,
     gates: &[u32],
     v: Var,
@@ -50,12 +50,12 @@ fn hold_fanins(
         (walkedTo (marksIn (now (marks .entry))) (now (list .entry)) count)) ⌝ }
 {
     let gate = fanins_of(inputs, gates, v);
-    let with_first = hold(inputs, gate.first.var(), marks, list, count);
-    hold(inputs, gate.second.var(), marks, list, with_first)
+    let with_first = mark_new(inputs, gate.first.var(), marks, list, count);
+    mark_new(inputs, gate.second.var(), marks, list, with_first)
 }
 
 // All that the two literals reach without a mark is marked and listed; how many that are.
-pub fn hold_reached(
+pub fn mark_reached(
     inputs: usize,
     gates: &[u32],
     first: Lit,
@@ -70,18 +70,18 @@ pub fn hold_reached(
         (take r (now (list .exit))) r ⌝ }
     ensures { λ r. ⌜ marksIn (now (marks .exit)) ≡ setEach true (take r (now (list .exit))) (marksIn (now (marks .entry))) ⌝ }
 {
-    let with_first = hold(inputs, first.var(), marks, list, 0);
-    let mut count = hold(inputs, second.var(), marks, list, with_first);
+    let with_first = mark_new(inputs, first.var(), marks, list, 0);
+    let mut count = mark_new(inputs, second.var(), marks, list, with_first);
     let mut done = 0;
     while done < count {
-        count = hold_fanins(inputs, gates, Var(list[done]), marks, list, count);
+        count = mark_new_fanins(inputs, gates, Var(list[done]), marks, list, count);
         done += 1;
     }
     count
 }
 
 // The marks of the first `count` in the list are taken off.
-fn release(marks: &mut [bool], list: &[u32], count: usize)
+fn unmark(marks: &mut [bool], list: &[u32], count: usize)
     requires { ⌜ (count ≤ length (now list)) × ((j : ℕ) → j < count → getD (now list) j 0 < length (marksIn (now marks))) ⌝ }
     ensures { λ _. ⌜ marksIn (now (marks .exit)) ≡ setEach false (take count (now (list .entry))) (marksIn (now (marks .entry))) ⌝ }
 {
@@ -92,7 +92,7 @@ fn release(marks: &mut [bool], list: &[u32], count: usize)
     }
 }
 
-// How many gates without a mark the two literals reach, where marked gates up to some variable reach marked ones alone.
+// How many gates without a mark the two literals reach. A marked gate's fanins are to be marked as well, since the walk stops there.
 pub fn held_back(
     inputs: usize,
     gates: &[u32],
@@ -107,7 +107,7 @@ pub fn held_back(
     ensures { λ r. ⌜ CountsHeld (netOf inputs (now (gates .entry))) (marksIn (now (marks .entry))) (first .0 ∷ second .0 ∷ []) r ⌝ }
     ensures { λ _. ⌜ marksIn (now (marks .exit)) ≡ marksIn (now (marks .entry)) ⌝ }
 {
-    let count = hold_reached(inputs, gates, first, second, marks, list);
-    release(marks, list, count);
+    let count = mark_reached(inputs, gates, first, second, marks, list);
+    unmark(marks, list, count);
     count
 }

@@ -19,10 +19,10 @@ use Rattle.replacer.proofs.finish.mark_kept.Tie as tie
 
 -- ---- the places, and what is listed and marked once the literals' gates are held
 
-abbrev start : tie.After-hold-reached → tie.Start
+abbrev start : tie.After-mark-reached → tie.Start
 start h = h .before .before .before .before .before .before
 
-abbrev held-at : tie.After-struct-known → tie.After-hold-reached
+abbrev held-at : tie.After-struct-known → tie.After-mark-reached
 held-at c = c .before .before .before .before .before
 
 abbrev net : tie.Start → Net
@@ -31,31 +31,31 @@ net s = netOf (s .args .inputs) (now (s .args .gates))
 abbrev given : tie.Start → List Bool
 given s = marksIn (now (s .args .marks))
 
-abbrev list : tie.After-hold-reached → List ℕ
-list h = h .hold-reached .last .1 .1 .1 .1 .1 .0
+abbrev list : tie.After-mark-reached → List ℕ
+list h = h .mark-reached .last .1 .1 .1 .1 .1 .0
 
-abbrev reached : tie.After-hold-reached → List Bool
-reached h = setEach true (take (h .hold-reached .result) (list h)) (given (start h))
+abbrev reached : tie.After-mark-reached → List Bool
+reached h = setEach true (take (h .mark-reached .result) (list h)) (given (start h))
 
 -- the root has a mark there
-root-marked : (h : tie.After-hold-reached) → start h .args .root .0 < length (reached h)
+root-marked : (h : tie.After-mark-reached) → start h .args .root .0 < length (reached h)
 root-marked h =
     let s = start h in
-    let long = set-each-length true (take (h .hold-reached .result) (list h)) (given s) in
+    let long = set-each-length true (take (h .mark-reached .result) (list h)) (given s) in
     let gate = s .pre .1 .0 in
     omega (arith, long, s .pre .0)
 
 -- ---- the needs
 
-hold-reached-requires : tie.Need-hold-reached-requires
-hold-reached-requires c κs =
+mark-reached-requires : tie.Need-mark-reached-requires
+mark-reached-requires c κs =
     let s = c .before .before .before .before .before in
     (s .pre .0, literals-within (net s) (s .args .root .0) (s .args .proposal) (s .pre .1 .0) (s .pre .1 .1))
 
 set-mark-requires : tie.Need-set-mark-requires
 set-mark-requires c κs =
     let h = held-at (c .before .before) in
-    subst⁻¹ (λ (ms : List Bool). start h .args .root .0 < length ms) (h .hold-reached .ensures .1) (root-marked h)
+    subst⁻¹ (λ (ms : List Bool). start h .args .root .0 < length ms) (h .mark-reached .ensures .1) (root-marked h)
 
 same-length : tie.Need-same-length
 same-length c = search needs
@@ -71,9 +71,9 @@ returns c =
     let s = start h in
     let a = s .args in
     subst⁻¹ (KeptPast (net s) (given s) (a .root .0) (a .proposal))
-    (m .set-mark .ensures ∙ ap (λ (ms : List Bool). set ms (a .root .0) true) (h .hold-reached .ensures .1))
-    (and-keeps (net s) (s .pre .0 .0) (a .root .0) (s .pre .1 .0) (a .proposal) (s .pre .1 .1) (given s) (list h) (h .hold-reached .result)
-    (h .hold-reached .ensures .0) (m .before .before .if1 .taken) (root-marked h))
+    (m .set-mark .ensures ∙ ap (λ (ms : List Bool). set ms (a .root .0) true) (h .mark-reached .ensures .1))
+    (and-keeps (net s) (s .pre .0 .0) (a .root .0) (s .pre .1 .0) (a .proposal) (s .pre .1 .1) (given s) (list h) (h .mark-reached .result)
+    (h .mark-reached .ensures .0) (m .before .before .if1 .taken) (root-marked h))
 
 same-length-3 : tie.Need-same-length-3
 same-length-3 c = search needs
@@ -86,15 +86,15 @@ returns-2 c =
     let h = held-at (c .before) in
     let s = start h in
     let a = s .args in
-    subst⁻¹ (KeptPast (net s) (given s) (a .root .0) (a .proposal)) (h .hold-reached .ensures .1)
+    subst⁻¹ (KeptPast (net s) (given s) (a .root .0) (a .proposal)) (h .mark-reached .ensures .1)
     (literal-keeps (net s) (s .pre .0 .0) (a .root .0) (s .pre .1 .0) (a .proposal) (s .pre .1 .1) (given s) (list h)
-    (h .hold-reached .result) (h .hold-reached .ensures .0) (c .if1 .left))
+    (h .mark-reached .result) (h .mark-reached .ensures .0) (c .if1 .left))
 
 pub mark-kept-spec : {M : Type 1} → statement M
 mark-kept-spec =
     tie.close
     (tie.spec
-    hold-reached-requires
+    mark-reached-requires
     set-mark-requires
     same-length
     same-length-2

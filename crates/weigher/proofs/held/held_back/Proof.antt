@@ -21,7 +21,7 @@ use Rattle.weigher.proofs.held.held_back.Tie as tie
 
 -- ---- the places, and what is listed once both literals' gates are held
 
-abbrev start : tie.After-hold-reached → tie.Start
+abbrev start : tie.After-mark-reached → tie.Start
 start h = h .before .before .before .before .before .before
 
 abbrev net : tie.Start → Net
@@ -33,8 +33,8 @@ literals s = s .args .first .0 ∷ s .args .second .0 ∷ []
 abbrev given : tie.Start → List Bool
 given s = marksIn (now (s .args .marks))
 
-abbrev list : tie.After-hold-reached → List ℕ
-list h = h .hold-reached .last .1 .1 .1 .1 .1 .0
+abbrev list : tie.After-mark-reached → List ℕ
+list h = h .mark-reached .last .1 .1 .1 .1 .1 .0
 
 within : (s : tie.Start) (j : ℕ) → j < 2 → varOf (getD (literals s) j 0) ≤ last (net s)
 within s zero h = s .pre .1 .0
@@ -43,19 +43,19 @@ within s (suc (suc j)) h = absurd (omega arith)
 
 -- ---- the needs
 
-hold-reached-requires : tie.Need-hold-reached-requires
-hold-reached-requires c κs = search needs
+mark-reached-requires : tie.Need-mark-reached-requires
+mark-reached-requires c κs = search needs
 
-release-requires : tie.Need-release-requires
-release-requires c κs =
+unmark-requires : tie.Need-unmark-requires
+unmark-requires c κs =
     let h = c .before .before .before .before .before .before in
     let s = start h in
-    let walk = h .hold-reached .ensures .0 in
-    let r = h .hold-reached .result in (
+    let walk = h .mark-reached .ensures .0 in
+    let r = h .mark-reached .result in (
       listed-fit (net s) (literals s) (given s) (list h) r walk,
       λ j q.
           let gate = listed-gate (net s) (literals s) (given s) (list h) r walk j q in
-          omega (arith, gate .within, marks-length (now (s .args .marks)), marks-length (h .hold-reached .last .1 .1 .1 .1 .0)),
+          omega (arith, gate .within, marks-length (now (s .args .marks)), marks-length (h .mark-reached .last .1 .1 .1 .1 .0)),
     )
 
 same-length : tie.Need-same-length
@@ -69,14 +69,14 @@ returns c =
     let e = c .before .before in
     let h = e .before .before .before .before .before .before .before in
     let s = start h in
-    let walk = h .hold-reached .ensures .0 in
-    let r = h .hold-reached .result in
+    let walk = h .mark-reached .ensures .0 in
+    let r = h .mark-reached .result in
     let vs = take r (list h) in
     let all = listed-all (net s) (literals s) (given s) (list h) r walk in (
       λ top closed low.
           sym all ∙ walk-counts (net s) (literals s) (given s) vs (s .pre .0 .0 .lawful) top closed low r (omega arith) walk (within s),
-      e .release .ensures ∙ ap (setEach false vs) (h .hold-reached .ensures .1) ∙ set-each-undone vs (given s) (walk .had-none),
+      e .unmark .ensures ∙ ap (setEach false vs) (h .mark-reached .ensures .1) ∙ set-each-undone vs (given s) (walk .had-none),
     )
 
 pub held-back-spec : {M : Type 1} → statement M
-held-back-spec = tie.close (tie.spec hold-reached-requires release-requires same-length same-length-2 returns)
+held-back-spec = tie.close (tie.spec mark-reached-requires unmark-requires same-length same-length-2 returns)

@@ -1,12 +1,12 @@
--- `replacer::rewire::stand_in` meets its contract: its test is the definition's, and a proposal that is no literal turns by at most 1.
+-- `Proposal::stand_in` meets its contract: its test is the definition's, and a proposal that is no literal turns by at most 1.
 -- Assumes nothing.
 use native.Mathlib.Omega.{arith}
 use borrow.Author.Needs.{needs}
 use borrow.Author.Tests.{ne-eqb}
 use Rattle.replacement.specs.Rewire.{standIn}
 use Rattle.replacement.proofs.Rewire.{and-kind}
-use Rattle.replacer.proofs.rewire.stand_in.Statement.{statement}
-use Rattle.replacer.proofs.rewire.stand_in.Tie as tie
+use Rattle.replacement.proofs.types.Proposal.stand_in.Statement.{statement}
+use Rattle.replacement.proofs.types.Proposal.stand_in.Tie as tie
 
 returns : tie.Need-returns
 unfolding standIn

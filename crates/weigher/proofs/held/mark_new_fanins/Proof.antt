@@ -1,4 +1,4 @@
--- `weigher::held::hold_fanins` meets its contract: one fanin after the other is held, and they are lower, so they have marks.
+-- `weigher::held::mark_new_fanins` meets its contract: one fanin after the other is held, and they are lower, so they have marks.
 -- Assumes nothing.
 use mathlib.Core.Path.{ap, _∙_}
 use native.Mathlib.Omega.{arith}
@@ -8,18 +8,18 @@ use Rattle.graph.specs.Literal.{varOf}
 use Rattle.graph.proofs.Use.{first-lower, second-lower}
 use Rattle.checker.proofs.Marking.{marks-length}
 use Rattle.weigher.proofs.Steps.{two-held, few-held}
-use Rattle.weigher.proofs.held.hold_fanins.Statement.{statement}
-use Rattle.weigher.proofs.held.hold_fanins.Tie as tie
+use Rattle.weigher.proofs.held.mark_new_fanins.Statement.{statement}
+use Rattle.weigher.proofs.held.mark_new_fanins.Tie as tie
 
 -- ---- the places: the gate's literals known, the first fanin held
 
 abbrev start : tie.After-fanins-of → tie.Start
 start f = f .before .before .before .before
 
-abbrev fanins-at : tie.After-hold → tie.After-fanins-of
+abbrev fanins-at : tie.After-mark-new → tie.After-fanins-of
 fanins-at h = h .before .before .before .before
 
-abbrev first-at : tie.After-var2 → tie.After-hold
+abbrev first-at : tie.After-var2 → tie.After-mark-new
 first-at c = c .before .before .before .before .before
 
 -- ---- the needs
@@ -30,8 +30,8 @@ fanins-of-requires c κs = search needs
 var-requires : tie.Need-var-requires
 var-requires c κs = search needs
 
-hold-requires : tie.Need-hold-requires
-hold-requires c κs =
+mark-new-requires : tie.Need-mark-new-requires
+mark-new-requires c κs =
     let v = c .before .before in
     let f = v .before in
     let s = start f in
@@ -41,8 +41,8 @@ hold-requires c κs =
 var-requires-2 : tie.Need-var-requires-2
 var-requires-2 c κs = search needs
 
-hold-requires-2 : tie.Need-hold-requires-2
-hold-requires-2 c κs =
+mark-new-requires-2 : tie.Need-mark-new-requires-2
+mark-new-requires-2 c κs =
     let v = c .before .before in
     let h = first-at v in
     let f = fanins-at h in
@@ -53,9 +53,9 @@ hold-requires-2 c κs =
         v .var2 .ensures,
         f .fanins-of .ensures .1,
         marks-length (now (s .args .marks)),
-        marks-length (h .hold .last .1 .1 .0),
+        marks-length (h .mark-new .last .1 .1 .0),
       ),
-      omega (arith, few-held _ _ _ (h .hold .ensures)),
+      omega (arith, few-held _ _ _ (h .mark-new .ensures)),
     )
 
 same-length : tie.Need-same-length
@@ -72,17 +72,17 @@ returns c =
     let f = fanins-at h in
     let first-is = h .before .before .before .var .ensures ∙ ap varOf (f .fanins-of .ensures .0) in
     let second-is = v .var2 .ensures ∙ ap varOf (f .fanins-of .ensures .1) in
-    two-held _ _ (h .hold .ensures) (e .hold2 .ensures) first-is second-is
+    two-held _ _ (h .mark-new .ensures) (e .mark-new2 .ensures) first-is second-is
 
-pub hold-fanins-spec : {M : Type 1} → statement M
-hold-fanins-spec =
+pub mark-new-fanins-spec : {M : Type 1} → statement M
+mark-new-fanins-spec =
     tie.close
     (tie.spec
     fanins-of-requires
     var-requires
-    hold-requires
+    mark-new-requires
     var-requires-2
-    hold-requires-2
+    mark-new-requires-2
     same-length
     same-length-2
     returns)

@@ -1,4 +1,4 @@
--- `weigher::held::release` meets its contract: the marks of the first k in the list are taken off.
+-- `weigher::held::unmark` meets its contract: the marks of the first k in the list are taken off.
 -- Assumes nothing.
 use mathlib.Core.Path.{_≡_, refl, ap, _∙_}
 use mathlib.Core.Bool.{Bool, false}
@@ -12,8 +12,8 @@ use Rattle.checker.specs.Marks.{marksIn}
 use Rattle.checker.proofs.Marking.{marks-length}
 use Rattle.weigher.specs.Held.{setEach}
 use Rattle.weigher.proofs.Steps.{set-each-next}
-use Rattle.weigher.proofs.held.release.Statement.{statement}
-use Rattle.weigher.proofs.held.release.Tie as tie
+use Rattle.weigher.proofs.held.unmark.Statement.{statement}
+use Rattle.weigher.proofs.held.unmark.Tie as tie
 
 abbrev Inv-loop : tie.InvT-loop
 Inv-loop marks₀ list count k₀ marks k =
@@ -66,8 +66,8 @@ returns c =
     let e : l .loop .k ≡ l .before .before .before .args .count = omega arith in
     rw e at (l .loop .inv .2)
 
-pub release-spec : {M : Type 1} → statement M
-release-spec =
+pub unmark-spec : {M : Type 1} → statement M
+unmark-spec =
     tie.close
     (tie.spec
     Inv-loop

@@ -1,12 +1,12 @@
--- `weigher::held::hold` meets its contract: its two tests are the definition's.
+-- `weigher::held::mark_new` meets its contract: its two tests are the definition's.
 -- Assumes nothing.
 use mathlib.Core.Path.{sym, _∙_}
 use native.Mathlib.Numerals.{add-one}
 use native.Mathlib.Omega.{arith}
 use borrow.Author.Needs.{needs}
 use Rattle.weigher.proofs.Steps.{held-input, held-marked, held-new}
-use Rattle.weigher.proofs.held.hold.Statement.{statement}
-use Rattle.weigher.proofs.held.hold.Tie as tie
+use Rattle.weigher.proofs.held.mark_new.Statement.{statement}
+use Rattle.weigher.proofs.held.mark_new.Tie as tie
 
 at-requires : tie.Need-at-requires
 at-requires c κs = search needs
@@ -48,8 +48,8 @@ returns-3 c =
     rw (m .set-mark .ensures, add-one (e .before .before .before .before .before .before .before .args .count))
     (sym (held-new _ _ _ (omega arith) (sym (e .before .has-mark .ensures) ∙ e .if2 .left)))
 
-pub hold-spec : {M : Type 1} → statement M
-hold-spec =
+pub mark-new-spec : {M : Type 1} → statement M
+mark-new-spec =
     tie.close
     (tie.spec
     at-requires

@@ -1,4 +1,4 @@
--- `weigher::held::hold_reached` meets its contract: both literals' gates are held first, then the fanins of each gate that is listed; what
+-- `weigher::held::mark_reached` meets its contract: both literals' gates are held first, then the fanins of each gate that is listed; what
 -- is done so far is a stage of the walk, and no more gates are listed than there are.
 -- Assumes nothing.
 use mathlib.Core.Path.{_≡_, refl, subst}
@@ -15,8 +15,8 @@ use Rattle.checker.proofs.Marking.{marks-length}
 use Rattle.weigher.specs.Held.{Walked, walkedTo, Holding}
 use Rattle.weigher.proofs.Steps.{two-held, few-held, marks-stay, listed-most, marks-room}
 use Rattle.weigher.proofs.Walk.{Stage, stage-start, stage-step, stage-holding}
-use Rattle.weigher.proofs.held.hold_reached.Statement.{statement}
-use Rattle.weigher.proofs.held.hold_reached.Tie as tie
+use Rattle.weigher.proofs.held.mark_reached.Statement.{statement}
+use Rattle.weigher.proofs.held.mark_reached.Tie as tie
 
 -- whatever the literals and the marks were, the walk is further on than where the loop began
 abbrev Inv-loop : tie.InvT-loop
@@ -32,16 +32,16 @@ abbrev μ-loop : tie.MeasureT-loop
 
 -- ---- the places: the first literal's gate held, then the second's; and what stands where the loop is
 
-abbrev start : tie.After-hold Inv-loop μ-loop → tie.Start Inv-loop μ-loop
+abbrev start : tie.After-mark-new Inv-loop μ-loop → tie.Start Inv-loop μ-loop
 start h = h .before .before .before .before .before .before .before
 
-abbrev first-at : tie.After-var2 Inv-loop μ-loop → tie.After-hold Inv-loop μ-loop
+abbrev first-at : tie.After-var2 Inv-loop μ-loop → tie.After-mark-new Inv-loop μ-loop
 first-at v = v .before .before .before .before .before
 
-abbrev second-at : tie.After-slice-known6 Inv-loop μ-loop → tie.After-hold2 Inv-loop μ-loop
+abbrev second-at : tie.After-slice-known6 Inv-loop μ-loop → tie.After-mark-new2 Inv-loop μ-loop
 second-at c = c .before .before .before .before
 
-abbrev loop-at : tie.After-hold-fanins Inv-loop μ-loop → tie.At-loop Inv-loop μ-loop
+abbrev loop-at : tie.After-mark-new-fanins Inv-loop μ-loop → tie.At-loop Inv-loop μ-loop
 loop-at f = f .before .before .before .before .before
 
 abbrev start-of : tie.After-slice-known6 Inv-loop μ-loop → tie.Start Inv-loop μ-loop
@@ -60,7 +60,7 @@ abbrev walked : tie.At-loop Inv-loop μ-loop → Walked
 walked l = walkedTo (marksIn (l .loop .marks)) (l .loop .list) (l .loop .count)
 
 begun : (c : tie.After-slice-known6 Inv-loop μ-loop)
-    → let e = second-at c .hold2 in
+    → let e = second-at c .mark-new2 in
     let s = start-of c in
     Stage (net s) (literals s) (given s) 0 (walkedTo (marksIn (e .last .1 .1 .0)) (e .last .1 .1 .1 .0) (e .result))
 begun c =
@@ -70,7 +70,7 @@ begun c =
     let s = start h in
     stage-start (net s) (s .args .first .0) (s .args .second .0) (given s) (s .pre .0 .1) (s .pre .1 .0) (s .pre .1 .1)
     (now (s .args .list)) (omega arith)
-    (two-held _ _ (h .hold .ensures) (e .hold2 .ensures) (h .before .before .before .var .ensures) (v .var2 .ensures))
+    (two-held _ _ (h .mark-new .ensures) (e .mark-new2 .ensures) (h .before .before .before .var .ensures) (v .var2 .ensures))
 
 so-far : (l : tie.At-loop Inv-loop μ-loop)
     → let s = start-of (l .before) in Stage (net s) (literals s) (given s) (l .loop .done) (walked l)
@@ -89,35 +89,35 @@ all-places l =
     marks-room (net s) (literals s) (given s) (s .pre .0 .1) (walked l) (so-far l .listing)
 
 -- once the fanins of one more are held the walk is one further on
-further : (f : tie.After-hold-fanins Inv-loop μ-loop) (ls : List ℕ) (ms : List Bool)
+further : (f : tie.After-mark-new-fanins Inv-loop μ-loop) (ls : List ℕ) (ms : List Bool)
     → let l = loop-at f in
     Stage (net (start-of (l .before))) ls ms (l .loop .done) (walked l)
     → Stage (net (start-of (l .before))) ls ms (l .loop .done + 1)
-    (walkedTo (marksIn (f .hold-fanins .last .1 .1 .1 .0)) (f .hold-fanins .last .1 .1 .1 .1 .0) (f .hold-fanins .result))
+    (walkedTo (marksIn (f .mark-new-fanins .last .1 .1 .1 .0)) (f .mark-new-fanins .last .1 .1 .1 .1 .0) (f .mark-new-fanins .result))
 further f ls ms st =
     let l = loop-at f in
     let s = start-of (l .before) in
     let long : last (net s) < length ms = omega (arith, all-places l, marks-stay (net s) ls ms (walked l) (st .listing)) in
-    stage-step (net s) ls ms long (s .pre .0 .0 .lawful) (l .loop .done) (walked l) st (omega arith) (room l) (f .hold-fanins .ensures)
+    stage-step (net s) ls ms long (s .pre .0 .0 .lawful) (l .loop .done) (walked l) st (omega arith) (room l) (f .mark-new-fanins .ensures)
 
 -- ---- the needs
 
 var-requires : tie.Need-var-requires Inv-loop μ-loop
 var-requires c κs = search needs
 
-hold-requires : tie.Need-hold-requires Inv-loop μ-loop
-hold-requires c κs = (omega (arith, c .before .before .var .ensures), omega arith)
+mark-new-requires : tie.Need-mark-new-requires Inv-loop μ-loop
+mark-new-requires c κs = (omega (arith, c .before .before .var .ensures), omega arith)
 
 var-requires-2 : tie.Need-var-requires-2 Inv-loop μ-loop
 var-requires-2 c κs = search needs
 
-hold-requires-2 : tie.Need-hold-requires-2 Inv-loop μ-loop
-hold-requires-2 c κs =
+mark-new-requires-2 : tie.Need-mark-new-requires-2 Inv-loop μ-loop
+mark-new-requires-2 c κs =
     let v = c .before .before in
     let h = first-at v in
     let s = start h in (
-      omega (arith, v .var2 .ensures, marks-length (now (s .args .marks)), marks-length (h .hold .last .1 .1 .0)),
-      omega (arith, few-held _ _ _ (h .hold .ensures)),
+      omega (arith, v .var2 .ensures, marks-length (now (s .args .marks)), marks-length (h .mark-new .last .1 .1 .0)),
+      omega (arith, few-held _ _ _ (h .mark-new .ensures)),
     )
 
 loop-holds : tie.Need-loop-holds Inv-loop μ-loop
@@ -129,8 +129,8 @@ mul-t20 c = let w = start-of (c .before .before) .pre .0 .0 .gates-few in omega 
 slice-read-t22 : tie.Need-slice-read-t22 Inv-loop μ-loop
 slice-read-t22 c = omega (arith, so-far (c .before .before) .listing .fits)
 
-hold-fanins-requires : tie.Need-hold-fanins-requires Inv-loop μ-loop
-hold-fanins-requires c κs =
+mark-new-fanins-requires : tie.Need-mark-new-fanins-requires Inv-loop μ-loop
+mark-new-fanins-requires c κs =
     let l = c .before .before .before .before in
     let s = start-of (l .before) in
     let gate = so-far l .listing .gates (l .loop .done) (omega arith) in (
@@ -170,20 +170,20 @@ returns c =
       st .listing .marks-are,
     )
 
-pub hold-reached-spec : {M : Type 1} → statement M
-hold-reached-spec =
+pub mark-reached-spec : {M : Type 1} → statement M
+mark-reached-spec =
     tie.close
     (tie.spec
     Inv-loop
     μ-loop
     var-requires
-    hold-requires
+    mark-new-requires
     var-requires-2
-    hold-requires-2
+    mark-new-requires-2
     loop-holds
     mul-t20
     slice-read-t22
-    hold-fanins-requires
+    mark-new-fanins-requires
     add-done
     loop-less
     loop-again

@@ -1,13 +1,13 @@
--- `replacer::rewire::redirected` meets its contract: its test is the definition's.
+-- `Proposal::redirected` meets its contract: its test is the definition's.
 -- Assumes nothing.
 use mathlib.Core.Path.{ap, sym, _∙_}
 use Prim.Native.Nat.{ℕ}
 use native.Mathlib.Omega.{arith}
 use borrow.Author.Needs.{needs}
 use Rattle.graph.specs.Literal.{flip}
 use Rattle.replacement.proofs.Rewire.{redirected-root, redirected-other}
-use Rattle.replacer.proofs.rewire.redirected.Statement.{statement}
-use Rattle.replacer.proofs.rewire.redirected.Tie as tie
+use Rattle.replacement.proofs.types.Proposal.redirected.Statement.{statement}
+use Rattle.replacement.proofs.types.Proposal.redirected.Tie as tie
 
 var-requires : tie.Need-var-requires
 var-requires c κs = search needs
@@ -24,11 +24,11 @@ returns c =
     let a = then .before .before .before .before .args in
     c .flip .ensures
     ∙ ap (λ (n : ℕ). flip n (a .l .0)) (c .before .stand-in .ensures)
-    ∙ sym (redirected-root (a .root .0) (a .proposal) (a .l .0) (omega arith))
+    ∙ sym (redirected-root (a .root .0) (a .self) (a .l .0) (omega arith))
 
 returns-2 : tie.Need-returns-2
 returns-2 c = let a = c .before .before .before .before .args in
-    sym (redirected-other (a .root .0) (a .proposal) (a .l .0) (λ e. c .if1 .left (omega arith)))
+    sym (redirected-other (a .root .0) (a .self) (a .l .0) (λ e. c .if1 .left (omega arith)))
 
 pub redirected-spec : {M : Type 1} → statement M
 redirected-spec = tie.close (tie.spec var-requires stand-in-requires flip-requires returns returns-2)
