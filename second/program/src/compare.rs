@@ -6,6 +6,7 @@
 pub mod apply;
 #[cfg(feature = "proved")]
 pub mod graph;
+mod judged;
 mod tally;
 #[cfg(test)]
 mod tests;

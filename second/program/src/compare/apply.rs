@@ -4,10 +4,9 @@
 //! their old values, and fewer gates are in use.
 
 mod cases;
-mod judged;
 
 use super::tally::{Calls, Tally};
-use super::{in_numbers, poisoned, Comparison};
+use super::{in_numbers, judged, poisoned, Comparison};
 use cases::Case;
 use model::Graph;
 use samples::Random;
@@ -55,5 +54,17 @@ fn same_answer(random: &mut Random, graph: &Graph, case: &Case, tally: &mut Tall
     tally.answer("apply", number);
     (number, counts) == in_numbers(expected, poison)
         && (&words, &results) == (&other_words, &other_results)
-        && (number != 0 || judged::keeps(random, graph, counts, &words, &results))
+        && (number != 0 || {
+            let after = finished(graph.inputs, counts, &words, &results);
+            judged::may_replace(random, graph, &after)
+        })
+}
+
+/// The graph that was left in lent words.
+fn finished(inputs: u64, [gates, outputs]: [usize; 2], words: &[u32], results: &[u32]) -> Graph {
+    Graph {
+        inputs,
+        gates: words[..2 * gates].to_vec(),
+        outputs: results[..outputs].to_vec(),
+    }
 }
