@@ -40,4 +40,12 @@ impl Random {
     pub fn pick<T: Clone>(&mut self, items: &[T]) -> T {
         items[self.between(0, items.len() - 1)].clone()
     }
+
+    /// Up to so many of the items, none of them twice.
+    pub fn some<T: Clone>(&mut self, items: &[T], most: usize) -> Vec<T> {
+        let mut left = items.to_vec();
+        (0..most.min(items.len()))
+            .map(|_| left.swap_remove(self.between(0, left.len() - 1)))
+            .collect()
+    }
 }
