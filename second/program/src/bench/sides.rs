@@ -85,6 +85,8 @@ pub struct Lent {
     values: Vec<u32>,
     leaves: Vec<Leaves>,
     tables: Vec<u64>,
+    /// The counts of a finished graph, which a refusal leaves alone.
+    finished: [usize; 2],
 }
 
 impl Lent {
@@ -98,6 +100,7 @@ impl Lent {
             values: vec![0; 64],
             leaves: vec![Leaves::default(); given.windows.len()],
             tables: vec![0; given.windows.len()],
+            finished: [0; 2],
         }
     }
 
@@ -159,6 +162,14 @@ impl Lent {
         }
     }
 
+    pub fn table_second(&mut self, given: &Given) {
+        for ((root, leaves), table) in given.windows.iter().zip(&mut self.tables) {
+            let graph = black_box(&given.graph);
+            let answer = table_by_words(graph, *root, leaves);
+            *table = answer.expect("the leaves cut the root");
+        }
+    }
+
     pub fn apply_proved(&mut self, given: &Given) {
         for proposed in &given.good {
             assert_eq!(self.applied_proved(given, proposed), 0);
@@ -169,7 +180,7 @@ impl Lent {
         for proposed in &given.good {
             let answer = self.applied_second(given, proposed);
             let (gates, outputs) = answer.expect("the proposal is good");
-            self.counts = [0, gates, outputs];
+            self.finished = [gates, outputs];
         }
     }
 
@@ -194,10 +205,8 @@ impl Lent {
     ) -> u32 {
         let graph = black_box(&given.graph);
         let (words, results) = (&mut self.gates, &mut self.outputs);
-        let mut counts = [self.counts[1], self.counts[2]];
-        let number = proved::apply(graph, root.0, leaves, proposal, words, results, &mut counts);
-        self.counts = [0, counts[0], counts[1]];
-        number
+        let counts = &mut self.finished;
+        proved::apply(graph, root.0, leaves, proposal, words, results, counts)
     }
 
     fn applied_second(
@@ -208,14 +217,6 @@ impl Lent {
         let graph = black_box(&given.graph);
         let (words, results) = (&mut self.gates, &mut self.outputs);
         model::apply(graph, *root, leaves, proposal, words, results)
-    }
-
-    pub fn table_second(&mut self, given: &Given) {
-        for ((root, leaves), table) in given.windows.iter().zip(&mut self.tables) {
-            let graph = black_box(&given.graph);
-            let answer = table_by_words(graph, *root, leaves);
-            *table = answer.expect("the leaves cut the root");
-        }
     }
 }
 
