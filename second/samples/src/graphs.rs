@@ -39,8 +39,8 @@ pub const BIG: Size = Size {
 };
 
 /// A graph that grows gate by gate.
-struct Builder {
-    graph: Graph,
+pub(crate) struct Builder {
+    pub(crate) graph: Graph,
 }
 
 impl Builder {
@@ -53,7 +53,7 @@ impl Builder {
         }
     }
 
-    fn and(&mut self, one: Lit, other: Lit) -> Lit {
+    pub(crate) fn and(&mut self, one: Lit, other: Lit) -> Lit {
         self.graph
             .gates
             .extend([one.max(other).0, one.min(other).0]);

@@ -5,6 +5,7 @@ pub mod assignments;
 pub mod damage;
 pub mod edges;
 pub mod graphs;
+pub mod near;
 pub mod odd_graphs;
 pub mod odd_texts;
 pub mod proposals;

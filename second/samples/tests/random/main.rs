@@ -4,6 +4,7 @@ mod calls;
 mod leaf_rule;
 mod lists;
 mod naive;
+mod near;
 mod refusing;
 mod roots;
 mod runs;
