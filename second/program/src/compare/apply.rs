@@ -1,7 +1,8 @@
 //! Compares the proved call that applies a proposal with this program's. More
 //! than half of the proposals are good ones from this program's lists, counted
-//! by kind; the others may be anything. A finished graph is judged here as
-//! well: its outputs have their old values, and fewer gates are in use.
+//! by kind. Others are wrong on one pattern, each of the 64 in turn, and the
+//! rest may be anything. A finished graph is judged here as well: its outputs
+//! have their old values, and fewer gates are in use.
 
 mod cases;
 
@@ -17,6 +18,7 @@ const CALLS: Calls = &[
     ("listed literal", &[0, 16]),
     ("listed AND", &[0, 16]),
     ("listed turned AND", &[0, 16]),
+    ("wrong on one pattern", &[13]),
     ("any proposal", &[0, 7, 9, 10, 11, 12, 13, 14, 16]),
 ];
 
@@ -27,6 +29,9 @@ pub fn compare(out: &mut dyn Write) -> io::Result<bool> {
         let title = format!("{} proposals on {graphs} graphs: {name}", cases.len());
         comparison.samples(&title, cases, same_answer)?;
     }
+    let near = cases::wrong_on_one_pattern(&mut comparison.random);
+    let title = format!("{} proposals: wrong on one pattern", near.len());
+    comparison.samples(&title, near, same_answer)?;
     comparison.report()
 }
 

@@ -10,7 +10,7 @@ use model::replace::finished;
 use model::window::{self, Window};
 use model::{Graph, Leaves, Proposal, Var};
 use samples::graphs::{self, MID, SMALL};
-use samples::{edges, odd_graphs, proposals, windows, Random};
+use samples::{edges, near, odd_graphs, proposals, windows, Random};
 use std::rc::Rc;
 
 /// The graphs to propose on.
@@ -41,6 +41,8 @@ const ROOTS: usize = 4;
 const MOST_OF_KIND: usize = 2;
 /// A list can be long; this many records are looked at.
 const MOST_LISTED: usize = 500;
+/// How many proposals are wrong on each pattern.
+const WRONG_ON_EACH: usize = 60;
 /// Every proposal is looked at, for equal tables, below roots up to this one.
 const SMALL_ROOT: u32 = 24;
 
@@ -76,6 +78,24 @@ pub fn cases(random: &mut Random, graphs: usize, draw: fn(&mut Random) -> Graph)
         cases.extend((0..others).map(|_| other(random, &graph)));
     }
     cases
+}
+
+/// Proposals wrong on each of the 64 patterns in turn.
+pub fn wrong_on_one_pattern(random: &mut Random) -> Vec<Case> {
+    let patterns = (0..64).cycle().take(64 * WRONG_ON_EACH);
+    let case = |pattern| {
+        let (graph, root, leaves, proposal) = near::wrong_on(random, pattern);
+        let room = room(random, &graph, root, &proposal);
+        Case {
+            sort: "wrong on one pattern",
+            graph: Rc::new(graph),
+            root,
+            leaves,
+            proposal,
+            room,
+        }
+    };
+    patterns.map(case).collect()
 }
 
 /// Some of this program's lists at some roots.
@@ -161,11 +181,11 @@ fn any_window(random: &mut Random, graph: &Graph) -> (Var, Leaves) {
 /// the root's own gate again, or any numbers.
 fn any_proposal(random: &mut Random, graph: &Graph, window: &Window) -> Proposal {
     let small = window.root.0 <= SMALL_ROOT;
-    let proposal = match random.between(0, 6) {
-        0 => Some(proposals::good(random, window)),
-        1 => Some(proposals::bad(random, window)),
-        2 if small => proposals::equal(random, window),
-        3 if small => proposals::nearly_equal(random, window),
+    let proposal = match random.between(0, 5) {
+        0 if small => proposals::equal(random, window),
+        1 if small => proposals::nearly_equal(random, window),
+        0..=2 => Some(proposals::good(random, window)),
+        3 => Some(proposals::bad(random, window)),
         4 => again(graph, window.root),
         _ => None,
     };
