@@ -1,6 +1,6 @@
 //! What must hold of a finished graph, judged by the words of both graphs. The
-//! gates in use are found and the outputs evaluated here and not by the model,
-//! which finished the graph that it is compared with by the same functions.
+//! gates in use are found and the outputs evaluated here and not by the model:
+//! an error that it shares with the proved call must not judge itself.
 
 #[cfg(test)]
 mod tests;
