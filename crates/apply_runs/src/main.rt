@@ -1,5 +1,5 @@
-// Runs of applying a proposal. Each names its case and prints what the call answers, 0 and the counts of gates and outputs or the refusal's
-// number, and then the two lent lists, words that were 9 before. `stdout` holds what must come out.
+// Runs of applying a proposal. Each names its case and prints what the call answers, 0 and the counts of gates and outputs or the
+// refusal's number, and then the two lent lists, words that were 9 before. `stdout` holds what must come out.
 use graph::Lit;
 use graph::Var;
 use replacement::Applied;

@@ -1,8 +1,8 @@
 -- A kind's rule, test by test in the code's order; and by what a sweep has left which variables are covered and what
 -- a proposal's table is.
 -- Assumes nothing.
-use mathlib.Core.Path.{_≡_, refl, sym, ap, ap₂, _∙_}
-use mathlib.Core.Bool.{Bool, true, false, cond, _&&_}
+use mathlib.Core.Path.{_≡_, sym, ap, ap₂, _∙_}
+use mathlib.Core.Bool.{Bool, true, false, cond}
 use mathlib.Core.List.{List}
 use Prim.Native.Nat.{ℕ, _%_, _≤_, _<_}
 use native.Mathlib.Omega.{arith}
@@ -14,7 +14,7 @@ use Rattle.graph.specs.Literal.{varOf, isOdd}
 use Rattle.graph.specs.Lent.{written}
 use Rattle.graph.specs.Graph.{Net}
 use Rattle.graph.specs.Sweep.{turned, litValue}
-use Rattle.graph.proofs.Lists.{and-true, fails-with, every-at, equal-or-not}
+use Rattle.graph.proofs.Lists.{and-true, fails-with, every-at}
 use Rattle.graph.proofs.Swept.{swept-literal}
 use Rattle.window.specs.declared.leaf_set.Leaves.{Leaves}
 use Rattle.window.specs.Local.{covered, coveredUpTo, leafOwn}

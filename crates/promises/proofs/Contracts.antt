@@ -3,7 +3,7 @@
 -- Assumes nothing.
 use mathlib.Core.Path.{_≡_, sym, ap, _∙_, subst⁻¹}
 use mathlib.Core.List.{List}
-use Prim.Native.Nat.{ℕ, _*_, _≤_, _<_}
+use Prim.Native.Nat.{ℕ, _*_, _≤_}
 use native.Mathlib.Omega.{arith}
 use lib.ListN.{length, take, length-take}
 use Rattle.graph.specs.declared.refusal.Refusal.{Refusal}

@@ -1,27 +1,24 @@
 -- Replacing and applying: what is answered by the gain, and what by the verdict on the proposal.
 -- Assumes nothing.
-use mathlib.Core.Path.{_≡_, sym, ap, _∙_}
+use mathlib.Core.Path.{_≡_, sym, _∙_}
 use mathlib.Core.Bool.{true, false, not}
-use mathlib.Core.List.{List, [], _∷_, _++_, append-assoc}
+use mathlib.Core.List.{List, [], _∷_}
 use mathlib.Core.Logic.{⊎-elim}
 use mathlib.Core.Option.{Option, none, some, orElse}
 use Prim.Native.Nat.{ℕ}
 use native.Mathlib.Omega.{arith}
-use lib.ListN.{length}
 use Rattle.graph.specs.declared.refusal.Refusal.{Refusal}
-use Rattle.graph.specs.declared.refusal.Refusal.the-variants.{BadCandidate, NotEqual, NoGain, OrderLost, NoRoom}
-use Rattle.graph.specs.Lent.{Buffers, noRoomFor, storedIn, _leaving_}
+use Rattle.graph.specs.declared.refusal.Refusal.the-variants.{NoGain, OrderLost, NoRoom}
+use Rattle.graph.specs.Lent.{Buffers, noRoomFor, _leaving_}
 use Rattle.graph.specs.Refuse.{Row, _⇒_, firstRefusal}
-use Rattle.graph.specs.Graph.{Graph, size, wellFormed, WellFormed}
+use Rattle.graph.specs.Graph.{Graph, wellFormed, WellFormed}
 use Rattle.graph.specs.Use.{InUse}
 use Rattle.graph.proofs.Graph.{well-formed-iff}
 use Rattle.graph.proofs.Lists.{true-or-false}
 use Rattle.graph.proofs.Refuse.{first-join}
 use Rattle.window.specs.declared.leaf_set.Leaves.{Leaves}
-use Rattle.window.specs.Calls.{windowRefusals}
 use Rattle.replacement.specs.declared.types.Proposal.{Proposal}
 use Rattle.replacement.specs.declared.types.Applied.{Applied}
-use Rattle.replacement.specs.Proposal.{allowed}
 use Rattle.replacement.specs.Rewire.{Wires, finished, gain, atLeastOne, positive}
 use Rattle.replacement.specs.Calls.{proposalRefusals, applyRefusals, leftIn, applyEffect}
 use Rattle.replacement.proofs.Gain.{gain-iff, positive-iff}

@@ -46,7 +46,8 @@ unfoldable pub keptWords : Net → List Bool → List ℕ → ℕ → List ℕ
 unfolding byNumbers first second
 keptWords net ms ns v = cond (getD ms v false) (byNumbers ns (first net v) ∷ byNumbers ns (second net v) ∷ []) []
 
--- what putting gates asks for: a well-formed net, a proposal whose literals lie below a gate, a mark a variable, and small numbers for all of them
+-- what putting gates asks for: a well-formed net, a proposal whose literals lie below a gate of it, a mark a variable, and small numbers
+-- for all of them
 pub record Putting (net : Net) (root : ℕ) (p : Proposal) (ms : List Bool) (ns : List ℕ) : Type 0 where
   pub net-ok : WellFormedNet net
   pub gate : IsGate net root

@@ -112,8 +112,8 @@ fn put_kept(
 ) -> usize
     requires { ⌜ Putting (netOf inputs (now gates)) (root .0) proposal (marksIn (now marks)) (now numbers)
         × IsGate (netOf inputs (now gates)) (v .0) ⌝ }
-    requires { ⌜ at + length (keptWords (rewiredNet (netOf inputs (now gates)) (root .0) proposal) (marksIn (now marks)) (now numbers) (v .0))
-        ≤ length (now words) ⌝ }
+    requires { ⌜ at + length (keptWords (rewiredNet (netOf inputs (now gates)) (root .0) proposal) (marksIn (now marks)) (now numbers)
+        (v .0)) ≤ length (now words) ⌝ }
     ensures { λ r. ⌜ r ≡ at + length (keptWords (rewiredNet (netOf inputs (now (gates .entry))) (root .0) proposal)
         (marksIn (now (marks .entry))) (now (numbers .entry)) (v .0)) ⌝ }
     ensures { λ _. ⌜ now (words .exit) ≡ laid at (keptWords (rewiredNet (netOf inputs (now (gates .entry))) (root .0) proposal)

@@ -1,8 +1,7 @@
 -- `replacer::replace` meets its contract: the marks past the root give the gain, and then what stays in use.
 -- Assumes nothing.
 use mathlib.Core.Path.{_≡_, sym, ap, _∙_, subst⁻¹}
-use mathlib.Core.Bool.{Bool, false}
-use mathlib.Core.List.{List}
+use mathlib.Core.Bool.{false}
 use Prim.Native.Nat.{ℕ}
 use native.Mathlib.Omega.{arith}
 use borrow.Author.Needs.{needs}
@@ -15,7 +14,6 @@ use Rattle.checker.specs.Marks.{marksIn}
 use Rattle.checker.proofs.Marking.{marks-length, fresh-marks, fresh-long, mostVariables}
 use Rattle.replacement.specs.Rewire.{gain, positive}
 use Rattle.replacement.specs.Vanish.{MarksPast, Weighed}
-use Rattle.replacer.specs.Finishing.{KeptMarks}
 use Rattle.replacer.proofs.Finishing.{literals-within}
 use Rattle.replacer.proofs.Replacing.{nothing-gained, something-gained}
 use Rattle.replacer.proofs.replace.Statement.{statement}

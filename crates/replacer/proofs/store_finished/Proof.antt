@@ -2,12 +2,11 @@
 -- of those words.
 -- Assumes nothing.
 use mathlib.Core.Path.{_≡_, sym, ap, _∙_, subst⁻¹}
-use mathlib.Core.Bool.{Bool, true, false}
+use mathlib.Core.Bool.{Bool, false}
 use mathlib.Core.List.{List, map}
 use Prim.Native.Nat.{ℕ, _≤_, _<_}
 use native.Mathlib.Omega.{arith}
 use borrow.Author.Needs.{needs}
-use borrow.Author.Tests.{not-true, not-false}
 use denote.Ref.{now}
 use lib.ListN.{length, replicate, length-replicate}
 use Rattle.graph.specs.Lent.{written, Buffers, buffersOf, noRoomFor, RoomFor}
@@ -19,7 +18,7 @@ use Rattle.checker.specs.Marks.{marksIn}
 use Rattle.checker.proofs.Marking.{mostVariables}
 use Rattle.replacement.specs.Rewire.{redirected, rewiredNet, finished}
 use Rattle.replacement.proofs.Finished.{finished-sinks}
-use Rattle.replacer.specs.Finishing.{SmallNumbers, byNumbers, keptGates, newNumbers, Putting}
+use Rattle.replacer.specs.Finishing.{SmallNumbers, byNumbers, keptGates, newNumbers}
 use Rattle.replacer.proofs.Kept.{numbers-small, numbers-length}
 use Rattle.replacer.proofs.Finishing.{numbers, gates-are, room-is, finish-refused, finish-stored}
 use Rattle.replacer.proofs.store_finished.Statement.{statement}
