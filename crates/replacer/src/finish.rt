@@ -11,6 +11,7 @@ ghost use Rattle.graph.specs.Graph.{netOf, size, last, WellFormedNet, IsGate};
 ghost use Rattle.graph.specs.Use.{countMarks};
 ghost use Rattle.checker.specs.Marks.{marksIn};
 ghost use Rattle.replacement.specs.Rewire.{Wires, redirected, rewiredNet};
+ghost use Rattle.weigher.specs.Held.{Walkable};
 ghost use Rattle.replacer.specs.Finishing.{KeptPast, newNumbers, SmallNumbers, byNumbers, keptWords, keptGates, Putting};
 use crate::rewire::rewired_gate;
 use checker::marks::has_mark;
@@ -30,8 +31,7 @@ pub fn mark_kept(
     marks: &mut [bool],
     list: &mut [u32],
 )
-    requires { ⌜ WellFormedNet (netOf inputs (now gates)) × (last (netOf inputs (now gates)) < length (marksIn (now marks)))
-        × (suc (size (netOf inputs (now gates))) < length (now list)) ⌝ }
+    requires { ⌜ Walkable (netOf inputs (now gates)) (marksIn (now marks)) (now list) ⌝ }
     requires { ⌜ IsGate (netOf inputs (now gates)) (root .0) × Wires (root .0) proposal ⌝ }
     ensures { λ _. ⌜ KeptPast (netOf inputs (now (gates .entry))) (marksIn (now (marks .entry))) (root .0) proposal
         (marksIn (now (marks .exit))) ⌝ }

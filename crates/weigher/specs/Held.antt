@@ -7,7 +7,7 @@ use mathlib.Core.List.{List, [], _∷_}
 use lib.Dec.{ltb}
 use lib.ListN.{length, getD, set}
 use Rattle.graph.specs.Literal.{varOf}
-use Rattle.graph.specs.Graph.{Net, over, size, first, second, IsGate}
+use Rattle.graph.specs.Graph.{Net, over, size, last, first, second, IsGate, WellFormedNet}
 use Rattle.graph.specs.Use.{Reached}
 use Rattle.replacement.specs.Vanish.{countApart, heldFrom}
 
@@ -53,6 +53,10 @@ pub record Holding (net : Net) (ls : List ℕ) (ms : List Bool) (vs : List ℕ) 
   pub done-within : done ≤ length vs
   pub firsts-marked : (j : ℕ) → j < done → GateMarked net (setEach true vs ms) (varOf (first net (getD vs j 0)))
   pub seconds-marked : (j : ℕ) → j < done → GateMarked net (setEach true vs ms) (varOf (second net (getD vs j 0)))
+
+-- what a walk asks for: a well-formed net, a mark a variable, and a list with two places more than there are gates
+abbrev pub Walkable : Net → List Bool → List ℕ → Type 0
+Walkable net ms list = WellFormedNet net × (last net < length ms) × (suc (size net) < length list)
 
 -- a marked gate up to `top` has marked fanin gates: what is reached from it needs no visit
 pub record ClosedTo (net : Net) (top : ℕ) (ms : List Bool) : Type 0 where

@@ -6,9 +6,9 @@ ghost use mathlib.Core.List.{[], _∷_};
 ghost use Prim.Native.Nat.{ℕ, suc, _<_, _≤_};
 ghost use lib.ListN.{length, getD, take};
 ghost use Rattle.graph.specs.Literal.{varOf};
-ghost use Rattle.graph.specs.Graph.{netOf, size, last, first, second, WellFormedNet, IsGate};
+ghost use Rattle.graph.specs.Graph.{netOf, last, first, second, WellFormedNet, IsGate};
 ghost use Rattle.checker.specs.Marks.{marksIn};
-ghost use Rattle.weigher.specs.Held.{setEach, walkedTo, held, Holding, CountsHeld};
+ghost use Rattle.weigher.specs.Held.{setEach, walkedTo, held, Holding, CountsHeld, Walkable};
 use checker::marks::clear_mark;
 use checker::marks::has_mark;
 use checker::marks::set_mark;
@@ -63,8 +63,7 @@ pub fn mark_reached(
     marks: &mut [bool],
     list: &mut [u32],
 ) -> usize
-    requires { ⌜ WellFormedNet (netOf inputs (now gates)) × (last (netOf inputs (now gates)) < length (marksIn (now marks)))
-        × (suc (size (netOf inputs (now gates))) < length (now list)) ⌝ }
+    requires { ⌜ Walkable (netOf inputs (now gates)) (marksIn (now marks)) (now list) ⌝ }
     requires { ⌜ (varOf (first .0) ≤ last (netOf inputs (now gates))) × (varOf (second .0) ≤ last (netOf inputs (now gates))) ⌝ }
     ensures { λ r. ⌜ Holding (netOf inputs (now (gates .entry))) (first .0 ∷ second .0 ∷ []) (marksIn (now (marks .entry)))
         (take r (now (list .exit))) r ⌝ }
@@ -101,8 +100,7 @@ pub fn held_back(
     marks: &mut [bool],
     list: &mut [u32],
 ) -> usize
-    requires { ⌜ WellFormedNet (netOf inputs (now gates)) × (last (netOf inputs (now gates)) < length (marksIn (now marks)))
-        × (suc (size (netOf inputs (now gates))) < length (now list)) ⌝ }
+    requires { ⌜ Walkable (netOf inputs (now gates)) (marksIn (now marks)) (now list) ⌝ }
     requires { ⌜ (varOf (first .0) ≤ last (netOf inputs (now gates))) × (varOf (second .0) ≤ last (netOf inputs (now gates))) ⌝ }
     ensures { λ r. ⌜ CountsHeld (netOf inputs (now (gates .entry))) (marksIn (now (marks .entry))) (first .0 ∷ second .0 ∷ []) r ⌝ }
     ensures { λ _. ⌜ marksIn (now (marks .exit)) ≡ marksIn (now (marks .entry)) ⌝ }

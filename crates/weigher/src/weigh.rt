@@ -1,10 +1,10 @@
 // The gain of a proposal, by the marks past its root.
 ghost use mathlib.Core.Path.{_≡_};
-ghost use Prim.Native.Nat.{suc, _<_, _≤_};
-ghost use lib.ListN.{length};
+ghost use Prim.Native.Nat.{_≤_};
 ghost use Rattle.graph.specs.Literal.{varOf};
-ghost use Rattle.graph.specs.Graph.{netOf, size, last, WellFormedNet, IsGate};
+ghost use Rattle.graph.specs.Graph.{netOf, last, IsGate};
 ghost use Rattle.checker.specs.Marks.{marksIn};
+ghost use Rattle.weigher.specs.Held.{Walkable};
 ghost use Rattle.weigher.specs.Weighing.{GoingWith, Gains};
 use crate::held::held_back;
 use graph::Lit;
@@ -19,9 +19,8 @@ pub fn going_with(
     marks: &mut [bool],
     list: &mut [u32],
 ) -> usize
-    requires { ⌜ WellFormedNet (netOf inputs (now gates)) × IsGate (netOf inputs (now gates)) (root .0) ⌝ }
-    requires { ⌜ (last (netOf inputs (now gates)) < length (marksIn (now marks)))
-        × (suc (size (netOf inputs (now gates))) < length (now list)) ⌝ }
+    requires { ⌜ Walkable (netOf inputs (now gates)) (marksIn (now marks)) (now list) ⌝ }
+    requires { ⌜ IsGate (netOf inputs (now gates)) (root .0) ⌝ }
     ensures { λ r. ⌜ GoingWith (netOf inputs (now (gates .entry))) (marksIn (now (marks .entry))) (root .0) r ⌝ }
     ensures { λ _. ⌜ marksIn (now (marks .exit)) ≡ marksIn (now (marks .entry)) ⌝ }
 {
@@ -37,8 +36,7 @@ pub fn gain(
     marks: &mut [bool],
     list: &mut [u32],
 ) -> usize
-    requires { ⌜ WellFormedNet (netOf inputs (now gates)) × (last (netOf inputs (now gates)) < length (marksIn (now marks)))
-        × (suc (size (netOf inputs (now gates))) < length (now list)) ⌝ }
+    requires { ⌜ Walkable (netOf inputs (now gates)) (marksIn (now marks)) (now list) ⌝ }
     requires { ⌜ (varOf (proposal .first .0) ≤ last (netOf inputs (now gates)))
         × (varOf (proposal .second .0) ≤ last (netOf inputs (now gates))) ⌝ }
     ensures { λ r. ⌜ Gains (netOf inputs (now (gates .entry))) (marksIn (now (marks .entry))) going proposal r ⌝ }

@@ -89,8 +89,8 @@ going-with-requires c κs =
     let m = c .before .before .before in
     let s = start m in
     let ok = s .pre .0 in (
-      (net-well-formed (graph s) ok, s .pre .1 .is-gate),
-      (omega (arith, marks-length (m .mark-past .last .1 .1 .1 .1 .0)), omega arith),
+      (net-well-formed (graph s) ok, omega (arith, marks-length (m .mark-past .last .1 .1 .1 .1 .0)), omega arith),
+      s .pre .1 .is-gate,
     )
 
 slice-aggregate-gain : tie.Need-slice-aggregate-gain
