@@ -19,7 +19,7 @@ use Rattle.graph.proofs.Lists.{same-tests, cast-is}
 use Rattle.graph.proofs.Use.{down-keeps, down-low, marks-longer}
 use Rattle.checker.specs.Marks.{marksIn, markAfter}
 
--- ---- how marks lie in memory: beside these two laws only `set_mark` and `has_mark` know
+-- ---- how marks lie in memory: beside these two laws only `set_mark`, `clear_mark` and `has_mark` know
 
 pub marks-length : (places : List Bool) → length (marksIn places) ≡ length places
 unfolding marksIn
