@@ -1,4 +1,6 @@
 // What every call on a lent graph asks first: that the graph is well formed, that there is room, and, in `usage`, which gates are in use.
+#![tactic(auto)]
+
 pub mod marks;
 pub mod usage;
 

@@ -1,4 +1,6 @@
 // Copying words from one lent list into another.
+#![tactic(auto)]
+
 ghost use Rattle.std.specs.Prelude.{◌≡◌, ◌≤◌, length, take};
 ghost use Rattle.graph.specs.Lent.{written};
 

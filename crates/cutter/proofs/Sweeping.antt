@@ -25,7 +25,7 @@ use Rattle.window.specs.Leaves.{leaf_list, WellSet}
 use Rattle.window.specs.Local.{coverage, covered_own, covered_up_to, covered, covered_below, leaf_own}
 use Rattle.window.specs.Table.{words, leaf_pattern, words_up_to, table}
 use Rattle.window.proofs.Local.{literal_covered}
-use Rattle.window.proofs.Table.{words_are_tables}
+use Rattle.window.proofs.TableLaws.{words_are_tables}
 use Rattle.cutter.specs.declared.next_leaf.NextLeaf.{NextLeaf}
 use Rattle.cutter.specs.Sweeping.{Ahead, Sweeping, covered_ahead, table_ahead, covered_in}
 use Rattle.cutter.proofs.Passed.{ahead_none, place_below_limit}

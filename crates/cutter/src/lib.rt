@@ -1,5 +1,7 @@
 // Windows of a lent graph: the leaves that the rule picks for a root, and the root's table over leaves. What the crates above share stands
 // in the modules.
+#![tactic(auto)]
+
 pub mod cover;
 mod next_leaf;
 pub mod rule;

@@ -7,7 +7,7 @@ use graph::Var;
 use window::Leaves;
 
 // A leaf and its place; variable 0 where there is none at that place.
-#[derive(Drop)]
+#[derive(Clone, Copy)]
 pub struct NextLeaf {
     pub place: usize,
     pub leaf: Var,

@@ -10,7 +10,7 @@ use graph::Var;
 use window::{LEAF_LIMIT, Leaves};
 
 // The leaf whose expansion is the smallest so far, and how many leaves that has; variable 0 and the limit where there is none.
-#[derive(Drop)]
+#[derive(Clone, Copy)]
 pub struct Choice {
     pub leaf: Var,
     pub count: usize,

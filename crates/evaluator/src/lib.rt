@@ -1,4 +1,6 @@
 // Evaluating a lent graph under a lent assignment of its inputs. All is judged before the first value is written.
+#![tactic(auto)]
+
 mod sweep;
 
 ghost use Rattle.std.specs.Prelude.{◌≡◌, cond, [], map, ◌<◌, ◌≤◌, leb, length};

@@ -1,5 +1,7 @@
 // The public calls for programs in other languages, on numbers and slices. Each answers document 01's number, which is 0 where the
 // call is accepted; what else it answers goes through references, which a refusal leaves as they were.
+#![tactic(auto)]
+
 ghost use Rattle.std.specs.Prelude.{◌≡◌, [], ◌∷◌};
 ghost use Rattle.graph.specs.Lent.{buffers_of};
 ghost use Rattle.exports.specs.Exported.{

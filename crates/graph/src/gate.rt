@@ -5,7 +5,7 @@ ghost use Rattle.graph.specs.Graph.{net_of, most_inputs, first, second, IsGate};
 use crate::lit::{Lit, Var};
 
 // The two literals of a gate, the larger first.
-#[derive(Drop)]
+#[derive(Clone, Copy)]
 pub struct Fanins {
     pub first: Lit,
     pub second: Lit,
@@ -30,6 +30,7 @@ impl Fanins {
     }
 }
 
+#[tactic(auto, unfolding(crate::specs::Graph::first, crate::specs::Graph::second))]
 pub fn fanins_of(inputs: usize, gates: &[u32], v: Var) -> Fanins
     requires { (inputs ≤ most_inputs) × IsGate (net_of inputs gates.now) v.0 }
     ensures first_value { result.first.0 ≡ first (net_of inputs gates.now) v.0 }

@@ -1,4 +1,6 @@
 // What a graph is and means: literals and variables, the limits, and why a call refuses.
+#![tactic(auto)]
+
 mod evaluated;
 mod gate;
 mod limits;

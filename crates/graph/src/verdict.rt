@@ -1,7 +1,7 @@
 // What a test of a call's input comes to. specs/Refuse.antt says what it means.
 use crate::refusal::Refusal;
 
-#[derive(Drop)]
+#[derive(Clone, Copy)]
 pub enum Verdict {
     Fine,
     Refused(Refusal),

@@ -22,7 +22,7 @@ use Rattle.window.specs.Table.{words, words_up_to, leaf_pattern}
 use Rattle.cutter.proofs.Sweeping.{covered_at}
 use Rattle.replacement.specs.declared.types.Proposal.{Proposal}
 use Rattle.replacement.specs.Proposal.{divides, literal_rules, and_rules, keeps_rule, allowed, proposed_value, proposed_table}
-use Rattle.replacement.proofs.Proposal.{same_rule, proposed_by_words}
+use Rattle.replacement.proofs.ProposalLaws.{same_rule, proposed_by_words}
 
 -- ---- the rules
 

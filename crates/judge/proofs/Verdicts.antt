@@ -18,7 +18,7 @@ use Rattle.window.proofs.Calls.{window_accepted}
 use Rattle.replacement.specs.declared.types.Proposal.{Proposal}
 use Rattle.replacement.specs.Proposal.{allowed, a_literal, an_and, AllowedByTest}
 use Rattle.replacement.specs.Calls.{equal_tables, proposal_refusals}
-use Rattle.replacement.proofs.Proposal.{allowed_iff}
+use Rattle.replacement.proofs.ProposalLaws.{allowed_iff}
 
 module _ (g : Graph) (root : ℕ) (w : Leaves) (p : Proposal) where
   own_rows : List Row

@@ -1,4 +1,6 @@
 // Whether a proposal may stand for a root: its kind's rule, and its table over the leaves.
+#![tactic(auto)]
+
 ghost use Rattle.std.specs.Prelude.{◌≡◌, false, ◌<◌, ◌≤◌, length, get_or};
 ghost use Rattle.graph.specs.Lists.{every};
 ghost use Rattle.graph.specs.Literal.{var_of};

@@ -17,7 +17,7 @@ use Rattle.replacement.specs.declared.types.Proposal.{Proposal}
 use Rattle.replacement.specs.Proposal.{allowed, RuleKept}
 use Rattle.replacement.specs.Rewire.{gain, is_at_least_one}
 use Rattle.replacement.specs.Calls.{equal_tables}
-use Rattle.replacement.proofs.Proposal.{allowed_iff, rule_iff}
+use Rattle.replacement.proofs.ProposalLaws.{allowed_iff, rule_iff}
 use Rattle.listing.specs.declared.Candidate.{Candidate}
 use Rattle.listing.specs.Listing.{
   candidates,

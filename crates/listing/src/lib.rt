@@ -1,4 +1,6 @@
 // The list of good replacements.
+#![tactic(auto)]
+
 ghost use Rattle.std.specs.Prelude.{◌≡◌};
 ghost use Rattle.listing.specs.Listing.{proposal_of};
 
@@ -6,7 +8,7 @@ use graph::{Lit, Refusal};
 use replacement::Proposal;
 
 // A record of the list, in plain words as lent memory holds them.
-#[derive(Drop)]
+#[derive(Clone, Copy)]
 pub struct Candidate {
     pub kind: u32,
     pub first: u32,
@@ -30,7 +32,7 @@ impl Candidate {
 }
 
 // What listing answers: how many records were stored; how many there is no room for; or why it is refused.
-#[derive(Drop)]
+#[derive(Clone, Copy)]
 pub enum Listed {
     Records(usize),
     NoRoom(usize),

@@ -29,7 +29,7 @@ use Rattle.window.specs.declared.leaf_set.Leaves.{Leaves}
 use Rattle.window.specs.LeafRule.{picked}
 use Rattle.window.specs.Calls.{RootGiven, root_refusals, pick_answer, pick_outcome, window_refusals, Window, table_answer, table_outcome}
 use Rattle.window.proofs.Calls.{pick_answers, window_accepted}
-use Rattle.window.proofs.Table.{table_bit}
+use Rattle.window.proofs.TableLaws.{table_bit}
 use Rattle.window.proofs.LeafRule.{picked_well_set, picked_cuts}
 use Rattle.replacement.specs.declared.types.Proposal.{Proposal}
 use Rattle.replacement.specs.Rewire.{finished}

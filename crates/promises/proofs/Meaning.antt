@@ -41,7 +41,7 @@ use Rattle.replacement.specs.declared.types.Proposal.{Proposal}
 use Rattle.replacement.specs.Rewire.{finished}
 use Rattle.replacement.specs.Calls.{GoodProposal}
 use Rattle.replacement.proofs.Finished.{finished_free, finished_all_reached, finished_well_formed, Replaces, finished_keeps_outputs}
-use Rattle.replacement.proofs.Proposal.{rule_iff}
+use Rattle.replacement.proofs.ProposalLaws.{rule_iff}
 use Rattle.run.specs.Run.{run}
 use Rattle.run.proofs.Run.{run_keeps_inputs, run_keeps_outputs, run_well_formed, run_all_reached}
 use Rattle.promises.specs.Promises.{Keeps}

@@ -18,7 +18,7 @@ use Rattle.window.specs.Local.{Covered, covered, local_at}
 use Rattle.window.specs.Table.{bit, patterns, table}
 use Rattle.window.specs.LeafRule.{with_fanins, expand, rule_leaves, picked, Follows}
 use Rattle.window.proofs.Local.{covered_iff, covered_value}
-use Rattle.window.proofs.Table.{table_bit}
+use Rattle.window.proofs.TableLaws.{table_bit}
 use Rattle.window.proofs.Patterns.{equal_tables_equal_functions}
 use Rattle.window.proofs.LeafRule.{rule_follows, rule_only, picked_well_set, picked_cuts, picked_no_expansion}
 use Rattle.window.specs.Calls.{Window}

@@ -1,5 +1,7 @@
 // Promises about calls, alone and in a row: a function here only makes the calls. Its last clause is the promise; those before it fix the
 // answers and every lent word, as the calls' own contracts do.
+#![tactic(auto)]
+
 ghost use Rattle.std.specs.Prelude.{◌≡◌};
 ghost use Rattle.graph.specs.Graph.{graph_of};
 ghost use Rattle.graph.specs.Evaluate.{evaluate_effect};
@@ -47,7 +49,7 @@ pub fn write_then_read(
 }
 
 // The answers of two calls.
-#[derive(Drop)]
+#[derive(Clone, Copy)]
 pub struct TwoAnswers {
     pub first: ReadText,
     pub second: ReadText,
@@ -75,7 +77,7 @@ pub fn read_twice(
 }
 
 // A root's leaves, and its table over them.
-#[derive(Drop)]
+#[derive(Clone, Copy)]
 pub struct LeavesAndTable {
     pub picked: Picked,
     pub table: RootTable,

@@ -11,7 +11,7 @@ use graph::{MOST_GATES, MOST_INPUTS, MOST_OUTPUTS, Refusal, Verdict};
 use scanner::{ByteStep, byte_at, line_of};
 use text::{Header, MOST_BYTES};
 
-#[derive(Drop)]
+#[derive(Clone, Copy)]
 pub struct HeaderLine {
     pub found: bool,
     pub header: Header,

@@ -10,7 +10,7 @@ use scanner::{line_of, line_verdict};
 use text::Header;
 
 // Where a section ends, or why its first wrong line is refused.
-#[derive(Drop)]
+#[derive(Clone, Copy)]
 pub enum Section {
     Ends(usize),
     Wrong(Refusal),

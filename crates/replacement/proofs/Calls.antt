@@ -52,7 +52,7 @@ use Rattle.replacement.specs.Calls.{
   applied_outcome,
 }
 use Rattle.replacement.proofs.Gain.{gain_iff}
-use Rattle.replacement.proofs.Proposal.{allowed_iff, rule_iff}
+use Rattle.replacement.proofs.ProposalLaws.{allowed_iff, rule_iff}
 use Rattle.replacement.proofs.Finished.{finished_well_formed}
 
 equal_iff : (g : Graph) (root : ℕ) (w : Leaves) (p : Proposal)

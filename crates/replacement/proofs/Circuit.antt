@@ -20,7 +20,7 @@ use Rattle.window.specs.declared.leaf_set.Leaves.{Leaves}
 use Rattle.window.specs.Leaves.{leaf_list}
 use Rattle.window.specs.Local.{covered, local_up_to, local_at}
 use Rattle.window.proofs.Local.{covered_value}
-use Rattle.window.proofs.Table.{local_stays}
+use Rattle.window.proofs.TableLaws.{local_stays}
 
 -- f computes from the values of covered variables below the root what the root computes from the leaves
 pub record Computes (net : Net) (w : Leaves) (root : ℕ) (f : List Bool → Bool) : Type 0 where

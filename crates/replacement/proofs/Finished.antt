@@ -20,7 +20,7 @@ use Rattle.replacement.specs.declared.types.Proposal.{Proposal}
 use Rattle.replacement.specs.Proposal.{AllowedByTest, proposed_value, proposed_table}
 use Rattle.replacement.specs.Rewire.{redirected, rewired, finished}
 use Rattle.replacement.proofs.Circuit.{replaced_keeps_outputs}
-use Rattle.replacement.proofs.Proposal.{equal_table_computes}
+use Rattle.replacement.proofs.ProposalLaws.{equal_table_computes}
 use Rattle.replacement.proofs.Rewire.{rewired_free, wires_of, rewired_lawful}
 use Rattle.replacement.proofs.Replacement.{stand_for, rewired_replaced}
 

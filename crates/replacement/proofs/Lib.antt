@@ -1,5 +1,5 @@
 pub mod Circuit
-pub mod Proposal
+pub mod ProposalLaws
 pub mod NetPieces
 pub mod Rewire
 pub mod Reach

@@ -18,7 +18,7 @@ use Rattle.replacement.specs.declared.types.Proposal.{Proposal}
 use Rattle.replacement.specs.Proposal.{proposed_value}
 use Rattle.replacement.specs.Rewire.{Wires, to_literal, to_and, stand_in, redirected, rewired}
 use Rattle.replacement.proofs.Circuit.{Replaced}
-use Rattle.replacement.proofs.Proposal.{value_of_literal, value_of_and}
+use Rattle.replacement.proofs.ProposalLaws.{value_of_literal, value_of_and}
 use Rattle.replacement.proofs.Rewire.{
   literal_stands,
   root_stands,

@@ -1,4 +1,6 @@
 // Replacing a root.
+#![tactic(auto)]
+
 mod types;
 
 pub use types::{Applied, Proposal};

@@ -6,7 +6,7 @@ ghost use Rattle.replacement.specs.Vanish.{new_gates};
 use graph::{Lit, Refusal, Var};
 
 // A replacement for a root. Kind 0: the literal `first`. Kind 1: the AND of `first` and `second`, complemented where `turned` is 1.
-#[derive(Drop)]
+#[derive(Clone, Copy)]
 pub struct Proposal {
     pub kind: u32,
     pub first: Lit,
@@ -49,7 +49,7 @@ impl Proposal {
 }
 
 // What applying a proposal answers: the counts of the finished graph, or why it is refused.
-#[derive(Drop)]
+#[derive(Clone, Copy)]
 pub enum Applied {
     Graph { gates: usize, outputs: usize },
     Refused(Refusal),

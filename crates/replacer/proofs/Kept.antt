@@ -25,7 +25,7 @@ use Rattle.graph.proofs.Gather.{gather_same}
 use Rattle.graph.proofs.Singles.{singles, length_singles, get_d_singles}
 use Rattle.graph.proofs.Swept.{written_length, written_at, written_next}
 use Rattle.graph.proofs.Renumber.{count_most, number_low, number_most}
-use Rattle.window.proofs.Leaves.{replicate_at}
+use Rattle.window.proofs.LeavesLaws.{replicate_at}
 use Rattle.checker.proofs.Marking.{count_same, count_more}
 use Rattle.replacement.specs.declared.types.Proposal.{Proposal}
 use Rattle.replacement.specs.Rewire.{Wires, redirected, rewired_net, rewired}

@@ -1,4 +1,6 @@
 // Replacing a root: the call that judges a proposal and makes the finished graph. All is judged before the first word is stored.
+#![tactic(auto)]
+
 mod finish;
 mod rewire;
 

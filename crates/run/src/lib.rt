@@ -1,8 +1,10 @@
 // The whole run.
+#![tactic(auto)]
+
 use graph::Refusal;
 
 // What a run answers: the finished graph's gates and the replacements made, or why it is refused.
-#[derive(Drop)]
+#[derive(Clone, Copy)]
 pub enum Ran {
     Finished { gates: usize, made: usize },
     Refused(Refusal),

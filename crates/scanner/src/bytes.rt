@@ -5,7 +5,7 @@ ghost use Rattle.text.specs.States.{skipped};
 ghost use Rattle.scanner.specs.Tokens.{byte_step};
 
 // That the byte stands at the place, and the place after it.
-#[derive(Drop)]
+#[derive(Clone, Copy)]
 pub struct ByteStep {
     pub found: bool,
     pub next: usize,

@@ -8,7 +8,7 @@ use crate::text_reader::TextReader;
 use graph::{Refusal, Verdict};
 
 // That a line of numbers stands at a place, and the place after it.
-#[derive(Drop)]
+#[derive(Clone, Copy)]
 pub struct LineStep {
     pub found: bool,
     pub next: usize,

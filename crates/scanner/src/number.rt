@@ -4,7 +4,7 @@ ghost use Rattle.text.specs.Number.{number};
 ghost use Rattle.scanner.specs.Tokens.{digit_at, number_step, run_value};
 
 // A number that stands at a place, and the place after it; or that none stands there.
-#[derive(Drop)]
+#[derive(Clone, Copy)]
 pub struct NumberStep {
     pub found: bool,
     pub value: u32,

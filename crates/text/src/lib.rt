@@ -1,4 +1,6 @@
 // AIGER ASCII text: what it states, and what reading and writing answer.
+#![tactic(auto)]
+
 mod header;
 
 use graph::Refusal;
@@ -8,7 +10,7 @@ pub use header::Header;
 pub const MOST_BYTES: usize = 65535;
 
 // What reading a text answers: the counts of the graph that it states, or why it is refused.
-#[derive(Drop)]
+#[derive(Clone, Copy)]
 pub enum ReadText {
     Graph {
         inputs: usize,
@@ -19,7 +21,7 @@ pub enum ReadText {
 }
 
 // What writing a graph answers: the number of bytes of its text, or why it is refused.
-#[derive(Drop)]
+#[derive(Clone, Copy)]
 pub enum WrittenText {
     Bytes(usize),
     Refused(Refusal),

@@ -47,7 +47,7 @@ use Rattle.window.specs.Calls.{
   table_answer,
   table_outcome,
 }
-use Rattle.window.proofs.Leaves.{well_set_iff}
+use Rattle.window.proofs.LeavesLaws.{well_set_iff}
 use Rattle.window.proofs.Local.{covered_iff}
 
 -- ---- a graph and a gate in use

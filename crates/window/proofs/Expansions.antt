@@ -15,7 +15,7 @@ use Rattle.graph.proofs.Members.{at_place, place_of}
 use Rattle.window.specs.Leaves.{ascends_from, leaf_list, leaves_of}
 use Rattle.window.specs.Local.{Covered, zero_is, leaf_is, gate_is}
 use Rattle.window.specs.LeafRule.{insert, remove, with_fanins, expand}
-use Rattle.window.proofs.Leaves.{leaves_of_list}
+use Rattle.window.proofs.LeavesLaws.{leaves_of_list}
 use Rattle.window.proofs.Sets.{
   ascends_nil,
   insert_is,

@@ -18,7 +18,7 @@ use Rattle.window.specs.declared.leaf_set.Grown.{Grown}
 use Rattle.window.specs.Leaves.{leaf_limit, variables, leaf_list, leaves_of}
 use Rattle.window.specs.LeafRule.{put, insert, remove, with_fanins}
 use Rattle.window.specs.Growing.{grown_from, fitting, grown_of, Tidy}
-use Rattle.window.proofs.Leaves.{leaves_of_list}
+use Rattle.window.proofs.LeavesLaws.{leaves_of_list}
 use Rattle.window.proofs.Sets.{
   Put,
   at_end,

@@ -24,11 +24,11 @@ found_from j (x ∷ xs) v k e = go (eqb x v) refl e (found_from (suc j) xs v k)
     go true q h r = let s : j ≡ k = some-injective j k h in (0, omega arith, eqb-true x v q, omega arith)
     go false q h r = let s = r h in (suc s.0, omega (arith, s.1), s.2, omega (arith, s.3))
 
-missed_from : (j : ℕ) {xs : List ℕ} {v : ℕ} → v ∈ xs → ¬ (place_from j xs v ≡ none)
+missed_from : {v : ℕ} (j : ℕ) {xs : List ℕ} → v ∈ xs → ¬ (place_from j xs v ≡ none)
 unfolding place_from
-missed_from j {v} (here {y = x} {ys = xs} e) q =
+missed_from {v} j (here {y = x} {ys = xs} e) q =
     some-ne-none j (sym (ap (λ (b : Bool). cond b (some j) (place_from (suc j) xs v)) (eq-eqb x v (sym e))) ∙ q)
-missed_from j {v} (later {y = x} {ys = xs} i) q = go (eqb x v) q (missed_from (suc j) i)
+missed_from {v} j (later {y = x} {ys = xs} i) q = go (eqb x v) q (missed_from (suc j) i)
   where
     go : (b : Bool) → cond b (some j) (place_from (suc j) xs v) ≡ none → ¬ (place_from (suc j) xs v ≡ none) → ⊥
     go true h r = some-ne-none j h

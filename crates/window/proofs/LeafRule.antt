@@ -28,7 +28,7 @@ use Rattle.window.specs.LeafRule.{
   rule_leaves,
   picked,
 }
-use Rattle.window.proofs.Leaves.{leaves_of_list, leaves_of_well_set}
+use Rattle.window.proofs.LeavesLaws.{leaves_of_list, leaves_of_well_set}
 use Rattle.window.proofs.Weight.{weight, weightless}
 use Rattle.window.proofs.Smallest.{none_smallest}
 use Rattle.window.proofs.Expansions.{CutUnder, fanins_length, start_weighs, expand_weighs, start_cuts, expand_cuts}

@@ -1,9 +1,9 @@
 pub mod Bits
-pub mod Table
+pub mod TableLaws
 pub mod Patterns
 pub mod LeafPlaces
 pub mod Local
-pub mod Leaves
+pub mod LeavesLaws
 pub mod Growing
 pub mod Along
 pub mod Places

@@ -17,7 +17,7 @@ use Rattle.window.specs.Leaves.{leaf_limit, numbers, leaf_list, place_from, leaf
 use Rattle.window.specs.Local.{leaf_own, local_up_to, local_at}
 use Rattle.window.specs.Table.{bit, pack, table}
 use Rattle.window.proofs.Bits.{pack_lt, bit_pack}
-use Rattle.window.proofs.Table.{tables_equal, local_stays}
+use Rattle.window.proofs.TableLaws.{tables_equal, local_stays}
 
 module _ {A : Type 0} (a a' : ℕ → A) where
   -- a place in a list is within it, so only the values there count

@@ -16,6 +16,7 @@ use Rattle.graph.proofs.Lists.{same_tests}
 use Rattle.window.specs.Leaves.{ascends_from}
 use Rattle.window.specs.LeafRule.{put, insert, remove, with_fanins, expand}
 use Rattle.window.proofs.Sets.{
+  absent,
   ascends_head,
   ascends_tail,
   Put,
@@ -109,6 +110,7 @@ insert_count v xs u = go (eqb v 0)
     go false = put_count 0 (put_is v xs) u
 
 remove_count : {v : ℕ} {xs ys : List ℕ} → Remove v xs ys → v ∈ xs → suc (length ys) ≡ length xs
+remove_count {v = v} absent i = elim i [ ]
 remove_count (found e) i = refl
 remove_count (passed n r) (here e) = absurd (n e)
 remove_count (passed n r) (later i) = ap suc (remove_count r i)

@@ -11,6 +11,7 @@ use Rattle.graph.specs.Lists.{◌∈◌, here, later}
 use Rattle.graph.proofs.Lists.{at_most_or_above}
 use Rattle.window.specs.LeafRule.{insert}
 use Rattle.window.proofs.Sets.{
+  absent,
   Put,
   at_end,
   before,
@@ -49,6 +50,7 @@ insert_weight {v} {xs} (inserted h) = put_weight (put_is v xs)
 
 pub remove_weight : {v : ℕ} {xs ys : List ℕ} → Remove v xs ys → v ∈ xs → 2 ^ v + weight ys ≡ weight xs
 unfolding weight
+remove_weight {v = v} absent i = elim i [ ]
 remove_weight (found {xs = xs} e) i = ap (λ (x : ℕ). 2 ^ x + weight xs) e
 remove_weight (passed n r) (here e) = absurd (n e)
 remove_weight (passed n r) (later i) = omega (arith, remove_weight r i)

@@ -12,14 +12,14 @@ use graph::{Var, fanins_of};
 pub const LEAF_LIMIT: usize = 6;
 
 // A leaf set: how many leaves there are, and six places, ascending without repeats; unused places are 0.
-#[derive(Drop)]
+#[derive(Clone, Copy)]
 pub struct Leaves {
     pub count: usize,
     pub places: [Var; LEAF_LIMIT],
 }
 
 // A leaf set that grew, if it has at most six leaves; no leaves where it does not fit.
-#[derive(Drop)]
+#[derive(Clone, Copy)]
 pub struct Grown {
     pub fits: bool,
     pub leaves: Leaves,

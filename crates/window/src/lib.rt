@@ -1,4 +1,6 @@
 // What a gate computes locally: leaf sets, tables, and what asking for them answers.
+#![tactic(auto)]
+
 mod answers;
 mod leaf_set;
 mod truth;

@@ -6,7 +6,7 @@ ghost use Rattle.window.specs.Table.{words, same_table, leaf_pattern};
 use crate::leaf_set::LEAF_LIMIT;
 
 // The 64 bits of a local function: bit i is its value where leaf j has bit j of i.
-#[derive(Drop)]
+#[derive(Clone, Copy)]
 pub struct Table(pub u64);
 
 // The tables of the leaves themselves.

@@ -1,4 +1,6 @@
 // Writing a graph's text into a lent list of bytes. The bytes are counted first: where they do not fit, none is written.
+#![tactic(auto)]
+
 mod counting;
 mod decimal;
 mod put;

@@ -10,7 +10,7 @@ use Rattle.graph.specs.Refuse.{first_refusal, verdict_is}
 use Rattle.graph.proofs.Graph.{net_well_formed}
 use Rattle.window.specs.Leaves.{well_set}
 use Rattle.window.specs.Calls.{root_refusals}
-use Rattle.window.proofs.Leaves.{well_set_iff}
+use Rattle.window.proofs.LeavesLaws.{well_set_iff}
 use Rattle.cutter.proofs.Verdicts.{root_known, by_root, bad_leaves, not_a_cut, window_fine}
 use Rattle.cutter.proofs.verdict.window_verdict.Statement.{statement}
 use Rattle.cutter.proofs.verdict.window_verdict.Tie as tie
