@@ -85,7 +85,7 @@ pub fn evaluate(
     assignment: &[u32],
     values: &mut [u32],
 ) -> Evaluated
-    ensures { result leaving (λ x. x.now) values.exit
+    ensures { result leaving values.new
         ≡ evaluate_effect (graph_of inputs gates.now outputs.now) assignment.now values.old }
 {
     match evaluate_verdict(inputs, gates, outputs, assignment, values) {

@@ -116,7 +116,7 @@ pub fn evaluate_under(
     assignment: &[u32],
     values: &mut [u32],
 ) -> Evaluated
-    ensures values_value { result leaving (λ x. x.now) values.exit
+    ensures values_value { result leaving values.new
         ≡ evaluate_effect (graph_of inputs gates.now outputs.now) assignment.now values.old }
     ensures values_left { ValuesLeft (graph_of inputs gates.now outputs.now) assignment.now
         values.old result values.new }

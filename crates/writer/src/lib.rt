@@ -33,7 +33,7 @@ fn write_verdict(inputs: usize, gates: &[u32], outputs: &[u32], bytes: &[u8]) ->
 
 // Writes a graph's text: its number of bytes, which are then at the front of the lent list; or why it is refused.
 pub fn write(inputs: usize, gates: &[u32], outputs: &[u32], bytes: &mut [u8]) -> WrittenText
-    ensures { result leaving (λ x. x.now) bytes.exit
+    ensures { result leaving bytes.new
         ≡ write_effect (graph_of inputs gates.now outputs.now) bytes.old }
 {
     match write_verdict(inputs, gates, outputs, bytes) {
