@@ -53,7 +53,7 @@ module _ (g h : Graph) (ready : Ready g) (s : Step g h) where
 
   finished_ready : Ready (finished g s.root (proposal_of s.best))
   finished_ready = record {
-    well_formed_lem =
+    is_well_formed =
         finished_well_formed g ready.is_well_formed s.root s.is_gate (picked g.net s.root) (proposal_of s.best) fits.rule
         (let h = best_good s in
         omega (

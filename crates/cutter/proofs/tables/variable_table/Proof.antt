@@ -39,7 +39,7 @@ module _ (f : tie.After-fanins-of) where
 -- ---- the needs
 
 of-leaf-requires : tie.Need-of-leaf-requires
-of-leaf-requires c κs = (before-test c.before).requires.0.Place-ok (omega arith)
+of-leaf-requires c κs = (before-test c.before).requires.0.place_ok (omega arith)
 
 returns : tie.Need-returns
 returns c = c.of-leaf.ensures ∙ sym (table_leaf (before-test c.before.before).requires.0 (omega arith) _)
