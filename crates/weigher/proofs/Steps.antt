@@ -49,6 +49,7 @@ listed_or_not (v ∷ vs) u = ⊎_elim
 
 listed_has : (b : Bool) (vs : List ℕ) (ms : List Bool) (u : ℕ) → u < length ms → u ∈ vs → get_or (set_each b vs ms) u false ≡ b
 unfolding set_each
+listed_has b [] ms u h i = elim i [ ]
 listed_has b (v ∷ vs) ms u h (here e) = ⊎_elim
     (λ l. listed_has b vs (set ms v b) u (omega (arith, length-set ms v b)) l)
     (λ k. k b (set ms v b) ∙ ap (λ (w : ℕ). get_or (set ms w b) u false) (sym e) ∙ get_or-set_same ms u b false h)
