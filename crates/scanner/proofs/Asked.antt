@@ -7,7 +7,7 @@ use mathlib.Core.List.{List, [], ◌∷◌}
 use Prim.Native.Nat.{ℕ, ◌<◌, ◌^◌}
 use lib.ListN.{length}
 use seplogic.Ra.Ura.{Ura}
-use mir.Syntax.{Name, named, w64, Place, Opd as Operand, Body, seq, call}
+use mir.Syntax.{Callee, named, w8, w64, Place, Opd as Operand, Body, seq, call}
 use mir.Val.{Val}
 use base.Logic.{SProp, ent, sep, id⊢, ex_e, snd∗}
 use base.Fml.{Fml, Lft, Share, flft}
@@ -15,7 +15,6 @@ use prog.Wp.{Env, Calls, Loops}
 use types.Logic.{Logic, sem}
 use contract.Monad.{fact}
 use types.Kit.{
-  Given,
   Item,
   ‵,
   raw,
@@ -48,7 +47,7 @@ use types.Kit.{
 use types.Run.{Opds}
 use sound.WpLaws.{FmC}
 use denote.Laws.{Is, shows}
-use denote.Plain.{uint_Makes}
+use denote.Plain.{uint_Makes, uint_row_laws}
 use denote.Builtin.{u8, usize}
 use denote.Ref.{Bor}
 use denote.Slice.{slice_val, ShrSlice, shr_slice_copy}
@@ -121,11 +120,11 @@ module _ {M : Type 1} {𝓤 : Ura M} {𝓛 : Logic 𝓤} {K : Type 0} {Γ : List
   passes : {G : Goal 𝓤 H} → at < 2 ^ 64
       → Step K 𝓛 (raw ((Held R 𝓤 𝓛).pre (to 𝓛 R κ q text at)) ∷ Text κ text ∷ Γ) G (Text κ text ∷ ‵ (flft κ q) ∷ Γ) G
   passes fits = step (λ k.
-      use1 𝓛 (Text κ text ⊛ Text κ text) ((shr_slice_copy 𝓛 (named 0) κ u8).twice text _) $
+      use1 𝓛 (Text κ text ⊛ Text κ text) ((shr_slice_copy 𝓛 (named 0) κ u8 (uint_row_laws w8)).twice text _) $
       split t $ move t (2 ∷ 0 ∷ []) $
       use2 𝓛 (raw ((Held R 𝓤 𝓛).pre (to 𝓛 R κ q text at))) (goes 𝓛 R κ q text at fits) $ k)
 
-  module _ {E : Env 𝓤 H} {C : Calls 𝓤 H} {Λ : Loops 𝓤 H} {p : Post 𝓤 H} {callee : Name} {xs : List Operand} {d : Place}
+  module _ {E : Env 𝓤 H} {C : Calls 𝓤 H} {Λ : Loops 𝓤 H} {p : Post 𝓤 H} {callee : Callee} {xs : List Operand} {d : Place}
       (fm : FmC 𝓤 H 𝓛.laws C) (known : Triple 𝓤 (C callee) (Held R 𝓤 𝓛)) (fits : at < 2 ^ 64)
       (os : (i j : Item 𝓤) → Opds K 𝓛 (i ∷ j ∷ Γ) E xs (T'.lowered (reader text at) ∷ [])) where
     pub asks : {rest : Body} → FromAnswer K 𝓛 (Text κ text ∷ ‵ (flft κ q) ∷ Γ) R text at (λ u. lands C Λ E d u rest p)

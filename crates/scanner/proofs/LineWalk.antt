@@ -4,12 +4,9 @@ use mathlib.Core.Path.{◌≡◌, refl, sym, ap, ◌∙◌}
 use mathlib.Core.Bool.{true, false}
 use mathlib.Core.List.{List, [], ◌∷◌, ◌++◌}
 use mathlib.Core.Option.{Option}
-use mathlib.Core.WellFounded.InvImage
-use mathlib.Core.WellFounded.{WellFounded}
-use Prim.Native.Nat.{ℕ, ◌+◌, ◌-◌, ◌<◌, ◌≤◌, ◌^◌}
+use Prim.Native.Nat.{ℕ, ◌+◌, ◌-◌, ◌<◌, ◌≤◌}
 use native.Mathlib.Omega.{arith}
-use lib.ListN.{length, drop}
-use lib.WfN.{lt-wf_rel}
+use lib.ListN.{length, set, drop}
 use Rattle.scanner.specs.declared.bytes.ByteStep.{ByteStep}
 use Rattle.scanner.specs.declared.number.NumberStep.{NumberStep}
 use Rattle.text.specs.Number.{number}
@@ -25,6 +22,7 @@ use Rattle.scanner.proofs.Lines.{
   separator_between,
   separator_last,
   held,
+  next_held,
   answer,
   line_is_read,
   no_line_read,
@@ -32,79 +30,80 @@ use Rattle.scanner.proofs.Lines.{
   length_more,
 }
 
-module _ (text : List ℕ) (at : ℕ) (ys : List ℕ) where
-  -- the k numbers l are read, and the reader stands at a place
-  pub record State : Type 0 where
-    pub k : ℕ
-    pub pos : ℕ
-    pub l : List ℕ
-    pub long : length l ≡ k
-    pub room : k ≤ length ys
-    pub pos_fits : pos < 2 ^ 64
-    pub begun : Begun (line_of (length ys) (drop at text)) text l (length ys - k) pos
+-- of the numbers ys that are lent k are read, the reader stands at a place of the text that it reads, and ns is what is lent now
+pub record State (text : List ℕ) (at : ℕ) (ys read : List ℕ) (pos k : ℕ) (ns : List ℕ) : Type 0 where
+  pub same_text : read ≡ text
+  pub l : List ℕ
+  pub long : length l ≡ k
+  pub room : k ≤ length ys
+  pub begun : Begun (line_of (length ys) (drop at text)) read l (length ys - k) pos
+  pub numbers : ns ≡ held k l ys
 
-  abbrev pub Nearer : State → State → Type 0
-  Nearer t' t = length ys - t'.k < length ys - t.k
+pub at_first : (text : List ℕ) (at : ℕ) (ys : List ℕ) → State text at ys text at 0 ys
+at_first text at ys = record {
+  same_text = refl;
+  l = [];
+  long = refl;
+  room = omega arith;
+  begun = begins text (length ys) at (length ys - 0) (omega arith);
+  numbers = refl;
+}
 
-  pub Nearer-wf : WellFounded Nearer
-  Nearer-wf = InvImage.wf (λ (t : State). length ys - t.k) lt-wf_rel.wf
-
-  abbrev pub at_first : at < 2 ^ 64 → State
-  at_first fits = record {
-    k = 0;
-    pos = at;
-    l = [];
-    long = refl;
-    room = omega arith;
-    pos_fits = fits;
-    begun = begins text (length ys) at (length ys - 0) (omega arith);
-  }
-
-module _ {text : List ℕ} {at : ℕ} {ys : List ℕ} (t : State text at ys) where
-  abbrev pub numbers : List ℕ
-  numbers = held t.k t.l ys
-
-  pub same_size : length numbers ≡ length ys
-  same_size = length_held ys t.l t.k t.long t.room
+module _ {text : List ℕ} {at : ℕ} {ys read : List ℕ} {pos k : ℕ} {ns : List ℕ} (t : State text at ys read pos k ns) where
+  pub same_size : length ns ≡ length ys
+  same_size = ap length t.numbers ∙ length_held ys t.l k t.long t.room
 
   -- what is answered at a place is right
   abbrev pub Right : ℕ → Type 0
-  Right place = line_step text numbers (answer (length ys) t.k place) ≡ line_of (length ys) (drop at text)
+  Right place = line_step text ns (answer (length ns) k place) ≡ line_of (length ys) (drop at text)
 
-  pub all_right : length ys ≤ t.k → Right t.pos
-  all_right full = line_is_read text t.l ys t.k t.pos t.begun (omega (arith, t.room)) (omega (arith, t.room))
+  right_at : (place : ℕ) → line_step read (held k t.l ys) (answer (length ys) k place) ≡ line_of (length ys) (drop at text)
+      → Right place
+  right_at place e =
+      ap (λ (x : List ℕ). line_step x ns (answer (length ns) k place)) (sym t.same_text)
+      ∙ ap (λ (m : ℕ). line_step read ns (answer m k place)) same_size
+      ∙ ap (λ (ms : List ℕ). line_step read ms (answer (length ys) k place)) t.numbers
+      ∙ e
+
+  pub all_right : length ns ≤ k → Right pos
+  all_right full =
+      right_at pos (line_is_read read t.l ys k pos t.begun (omega (arith, same_size)) (omega (arith, t.room, same_size)))
 
   -- how many are needed after the next
   abbrev pub later : ℕ
-  later = length ys - (t.k + 1)
+  later = length ys - (k + 1)
 
   -- the byte that is asked for is the one that the line needs
-  pub between : {o : Option (List ℕ)} (u : List ℕ) → t.k + 1 < length ys → o ≡ after (space ∷ []) u
+  pub between : {o : Option (List ℕ)} (u : List ℕ) → k + 1 < length ns → o ≡ after (space ∷ []) u
       → o ≡ after (separator later ∷ []) u
-  between u more e = e ∙ ap (λ (b : ℕ). after (b ∷ []) u) (sym (separator_between later (omega arith)))
+  between u more e = e ∙ ap (λ (b : ℕ). after (b ∷ []) u) (sym (separator_between later (omega (arith, same_size))))
 
-  pub behind_last : {o : Option (List ℕ)} (u : List ℕ) → length ys ≤ t.k + 1 → o ≡ after (line_feed ∷ []) u
+  pub behind_last : {o : Option (List ℕ)} (u : List ℕ) → length ns ≤ k + 1 → o ≡ after (line_feed ∷ []) u
       → o ≡ after (separator later ∷ []) u
-  behind_last u none e = e ∙ ap (λ (b : ℕ). after (b ∷ []) u) (sym (separator_last later (omega arith)))
+  behind_last u none e = e ∙ ap (λ (b : ℕ). after (b ∷ []) u) (sym (separator_last later (omega (arith, same_size))))
 
-  module _ (less : t.k < length ys) (s : NumberStep) (s-is : number_step text s ≡ number (drop t.pos text)) where
-    pub without_number : s.found ≡ false → Right t.pos
+  module _ (less : k < length ns) (s : NumberStep) (s-is : number_step read s ≡ number (drop pos read)) where
+    pub without_number : s.found ≡ false → Right pos
     without_number e =
-        no_line_read text t.l ys t.k t.pos (no_number t.begun later (omega arith) s s-is e) less
+        let l : k < length ys = omega (arith, same_size) in
+        right_at pos (no_line_read read t.l ys k pos (no_number t.begun later (omega arith) s s-is e) l)
 
     module _ (s-found : s.found ≡ true) (c : ByteStep)
-        (c-is : byte_step text c ≡ after (separator later ∷ []) (drop s.next text)) where
+        (c-is : byte_step read c ≡ after (separator later ∷ []) (drop s.next read)) where
       pub without_separator : c.found ≡ false → Right s.next
       without_separator e =
-          no_line_read text t.l ys t.k s.next (no_separator t.begun later (omega arith) s s-is s-found c c-is e) less
+          let l : k < length ys = omega (arith, same_size) in
+          right_at s.next
+          (no_line_read read t.l ys k s.next (no_separator t.begun later (omega arith) s s-is s-found c c-is e) l)
 
-      abbrev pub further : c.found ≡ true → c.next < 2 ^ 64 → State text at ys
-      further e fits = record {
-        k = t.k + 1;
-        pos = c.next;
-        l = t.l ++ (s.value ∷ []);
-        long = length_more ys t.l t.k t.long s.value;
-        room = omega arith;
-        pos_fits = fits;
-        begun = goes_on t.begun later (omega arith) s s-is s-found c c-is e;
-      }
+      pub further : c.found ≡ true → State text at ys read c.next (k + 1) (set ns k s.value)
+      further e =
+          let l : k < length ys = omega (arith, same_size) in
+          record {
+            same_text = t.same_text;
+            l = t.l ++ (s.value ∷ []);
+            long = length_more ys t.l k t.long s.value;
+            room = omega arith;
+            begun = goes_on t.begun later (omega arith) s s-is s-found c c-is e;
+            numbers = ap (λ (ms : List ℕ). set ms k s.value) t.numbers ∙ next_held ys t.l k t.long s.value l;
+          }

@@ -14,7 +14,7 @@ use mir.Val.{Val, WT, has_ty, vint}
 use base.Logic.{SProp, ent, emp, via, fst∗, snd∗, ex_e}
 use base.Fml.{Lft, Share, ftrue, flft}
 use prog.Model.{Model}
-use prog.Routine.{Name, Routine, Env}
+use prog.Routine.{Callee, Routine, Env}
 use prog.Wp.{WpFn, Tables, Closed}
 use types.Logic.{Logic, sem}
 use contract.Monad.{fact}
@@ -53,10 +53,12 @@ use Rattle.scanner.proofs.Walk.{
 use Rattle.walks.proofs.Assign.{local_at, field_at_lem, fills}
 use Rattle.walks.proofs.Meets.{meets, stands}
 
-abbrev thin_fn : Name → Ty → Fn
+abbrev thin_fn : Callee → Ty → Fn
 thin_fn callee τ = record {
   lifetimes = 1;
   outlives = [];
+  ty_params = [];
+  givens = 0;
   params = 1;
   locals =
       local τ value_local
@@ -128,7 +130,7 @@ module _ (R : Answer) where
           → ent 𝓤 (ensured 𝓛 (plain_ended R) (plain_clauses R 𝓤) (κ, tt) parts tt r) (fact 𝓤 (is_right r))
       heard_right r = ex_e 𝓤 _ (λ ws. snd∗ 𝓤 (sem 𝓛 (lasts (plain_ended R) (κ, tt) parts ws)) (fact 𝓤 (is_right r)))
 
-      module _ (callee : Name) (𝓣 : Tables 𝓤 H) (known : Triple 𝓤 (𝓣.C callee) (Plain R 𝓤 𝓛)) where
+      module _ (callee : Callee) (𝓣 : Tables 𝓤 H) (known : Triple 𝓤 (𝓣.C callee) (Plain R 𝓤 𝓛)) where
         walk : Holds (has_ty (T'.mir (named 0)) v) × WT v
             → ent 𝓤 Entry (WpFn 𝓤 H 𝓣.C 𝓣.Λ (thin_fn callee R.mir) (v ∷ []) Post)
         walk wt =
@@ -144,7 +146,7 @@ module _ (R : Answer) where
             (λ u. by ! (ends R κ q 𝓛 𝓣.C 𝓣.Λ is_right _ Post heard_right (λ r. exits r u)).prf)))))
 
     -- over any tables in which the callee meets its contract
-    walks : (callee : Name) (𝓣 : Tables 𝓤 H) → Triple 𝓤 (𝓣.C callee) (Plain R 𝓤 𝓛)
+    walks : (callee : Callee) (𝓣 : Tables 𝓤 H) → Triple 𝓤 (𝓣.C callee) (Plain R 𝓤 𝓛)
         → Triple 𝓤 (WpFn 𝓤 H 𝓣.C 𝓣.Λ (thin_fn callee R.mir)) (Held R 𝓤 𝓛)
     walks callee 𝓣 known =
         meets 𝓛 (held_ended R) stayed (Goes-dropped 𝓛 1 (plain reader_row) yes (λ κs x f. refl), tt)
@@ -155,7 +157,7 @@ module _ (R : Answer) where
         via 𝓤 _ (fst∗ 𝓤 _ (emp 𝓤)) (walk κs.0 qs.0 a.0 callee 𝓣 known wt))
 
   module _ {M : Type 1} {𝓤 : Ura M} (𝓛 : Logic 𝓤) (𝓜 : Model 𝓤 𝓛.H) (𝓡 : Running 𝓤 𝓛.H 𝓜) (γ : Env)
-      (here callee : Name) (r : Routine) where
+      (here callee : Callee) (r : Routine) where
     open 𝓛 use {H}
 
     pub thin_meets : Closed 𝓤 H (tables 𝓤 H 𝓜 𝓡 γ).C (tables 𝓤 H 𝓜 𝓡 γ).Λ here (thin_fn callee R.mir) → γ callee ≡ r

@@ -17,7 +17,7 @@ use Rattle.graph.proofs.Lists.{true_or_false, same_tests}
 use Rattle.scanner.specs.declared.bytes.ByteStep.{ByteStep}
 use Rattle.text.specs.Number.{digit, is_digit, Front, front, digit_run, value_from, no_leading_zero, most_number, is_number, number}
 use Rattle.text.specs.Line.{◌>>=◌, after}
-use Rattle.scanner.specs.Tokens.{byte_step, digit_at, run_value}
+use Rattle.scanner.specs.Tokens.{byte_step, digit_at, number_step, run_value}
 use Rattle.text.proofs.Number.{digit_least, digit_most}
 
 -- the digits at the front of a text, and the text that follows them
@@ -140,6 +140,12 @@ zero_alone t h =
     rw (number_is t (rw h at (z.runs (x.runs refl))), ne_eqb (digit_at (drop 1 t)) 10 (λ e. absurd (omega arith))))
     (λ (o : Over (drop 1 t)). rw (number_is t (rw h at (z.runs o.runs)), o.none_there))
     (first (drop 1 t))
+
+-- the same at a place: the digit behind the zero says whether a number stands there
+pub zero_stands : (t : List ℕ) (at d : ℕ) → digit_at (drop at t) ≡ 0 → d ≡ digit_at (drop (at + 1) t)
+    → number_step t (record { found = eqb d 10; value = 0; next = at + 1 }) ≡ number (drop at t)
+unfolding number_step
+zero_stands t at d z e = rw e (rw drop-drop at (zero_alone (drop at t) z))
 
 leads : (b : ℕ) (bs : List ℕ) → ¬ (b ≡ digit 0) → no_leading_zero (b ∷ bs) ≡ true
 unfolding no_leading_zero

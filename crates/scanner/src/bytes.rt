@@ -11,6 +11,7 @@ pub struct ByteStep {
     pub next: usize,
 }
 
+#[tactic(auto, unfolding(crate::specs::Tokens::byte_step, text::specs::Line::after))]
 pub fn byte_at(text: &[u8], at: usize, byte: u8) -> ByteStep
     ensures { byte_step text.now result ≡ after (byte ∷ []) (drop at text.now) }
 {
@@ -41,6 +42,7 @@ pub(crate) fn line_end_at(text: &[u8], at: usize) -> ByteStep
 }
 
 // That the rest is empty, or starts with `i`, `o` or `c`.
+#[tactic(auto, unfolding(text::specs::States::skipped, graph::specs::Lists::is_in))]
 pub fn rest_is_skipped(text: &[u8], at: usize) -> bool
     ensures { result ≡ skipped (drop at text.now) }
 {

@@ -1,4 +1,6 @@
 // A lent text, read on from a place: bytes that must stand there, lines of numbers with the verdict on one, and the rest. Nothing is asked of the caller.
+#![tactic(auto)]
+
 mod bytes;
 mod line;
 mod number;

@@ -46,6 +46,7 @@ pub fn line_of(text: &[u8], at: usize, numbers: &mut [u32]) -> LineStep
 }
 
 // A misshapen line is a bad line, one that breaks its rule a bad literal.
+#[tactic(auto, unfolding(crate::specs::Lines::line_refusal, graph::specs::Refuse::verdict_is))]
 pub fn line_verdict(found: bool, kept: bool) -> Verdict
     ensures { verdict_is result ≡ line_refusal found kept }
 {

@@ -16,6 +16,7 @@ const NO_DIGIT: u64 = 10;
 const MOST_NUMBER: u64 = 4294967295;
 
 // The digit at a place, or NO_DIGIT.
+#[tactic(auto, unfolding(crate::specs::Tokens::digit_at))]
 fn digit_at(text: &[u8], at: usize) -> u64
     ensures { result ≡ digit_at (drop at text.now) }
 {
@@ -33,6 +34,7 @@ fn digit_at(text: &[u8], at: usize) -> u64
 }
 
 // The value of all the digits at a place. It is compared with the largest number at each digit, so that nothing wraps.
+#[tactic(auto, unfolding(crate::specs::Tokens::number_step), using(crate::proofs::Tokens::digit_within, crate::proofs::Tokens::passed_all))]
 fn digits_at(text: &[u8], at: usize) -> NumberStep
     ensures { number_step text.now result ≡ run_value (drop at text.now) }
 {
@@ -59,6 +61,7 @@ fn digits_at(text: &[u8], at: usize) -> NumberStep
 }
 
 // The number at a place. A zero stands alone.
+#[tactic(auto, using(crate::proofs::Tokens::digit_within, crate::proofs::Tokens::zero_stands, crate::proofs::Tokens::run_is_number))]
 pub(crate) fn number_at(text: &[u8], at: usize) -> NumberStep
     ensures { number_step text.now result ≡ number (drop at text.now) }
 {

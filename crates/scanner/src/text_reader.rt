@@ -8,7 +8,7 @@ ghost use Rattle.scanner.specs.Tokens.{byte_step, number_step};
 use crate::bytes::{ByteStep, line_end_at, space_at};
 use crate::number::{NumberStep, number_at};
 
-#[derive(Drop)]
+#[derive(Clone, Copy)]
 pub struct TextReader<'a> {
     pub text: &'a [u8],
     pub at: usize,

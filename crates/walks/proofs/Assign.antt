@@ -9,7 +9,7 @@ use mathlib.Core.Option.{some}
 use Prim.Native.Nat.{ℕ, zero, ◌+◌}
 use lib.Dec.{T as Holds}
 use seplogic.Ra.Ura.{Ura}
-use seplogic.Ra.TreeShare.{full_share}
+use base.Fraction.{full_share}
 use mir.Syntax.{Sym, Ty, Tys, ty_struct, field, place, copy, Rv as RValue, Body, seq, assign}
 use mir.Val.{Val, Vals, vstruct, WT, has_ty}
 use mir.Fields.{get_v, set_v}

@@ -8,7 +8,7 @@ use seplogic.Ra.Ura.{Ura}
 use mir.Syntax.{Fn}
 use base.Logic.{ent, sep}
 use prog.Model.{Model}
-use prog.Routine.{Name, Routine, Env}
+use prog.Routine.{Callee, Routine, Env}
 use prog.Wp.{Heap, WpFn, Tables, Closed}
 use types.Logic.{Logic}
 use sound.WpLaws.{WpFn-mono}
@@ -50,7 +50,7 @@ module _ {M : Type 1} {𝓤 : Ura M} (𝓛 : Logic 𝓤) (T : Ended) (hs : Stays
       → Meets 𝓛 T.signature runs (closing 𝓛 T c)
   meets sp tl k = walk_Meets 𝓛 T hs gs c runs (WpFn-mono 𝓤 H 𝓛.laws 𝓣 f) (walked 𝓛 T hs c runs sp tl k)
 
-module _ {M : Type 1} (𝓤 : Ura M) (H : Heap 𝓤) (𝓜 : Model 𝓤 H) (𝓡 : Running 𝓤 H 𝓜) (γ : Env) (here callee : Name) (r : Routine) (f : Fn)
+module _ {M : Type 1} (𝓤 : Ura M) (H : Heap 𝓤) (𝓜 : Model 𝓤 H) (𝓡 : Running 𝓤 H 𝓜) (γ : Env) (here callee : Callee) (r : Routine) (f : Fn)
     (mine theirs : Contract 𝓤) where
   pub stands : Closed 𝓤 H (tables 𝓤 H 𝓜 𝓡 γ).C (tables 𝓤 H 𝓜 𝓡 γ).Λ here f → γ callee ≡ r → Triple 𝓤 (𝓡.run r) theirs
       → ((𝓣 : Tables 𝓤 H) → Triple 𝓤 (𝓣.C callee) theirs → Triple 𝓤 (WpFn 𝓤 H 𝓣.C 𝓣.Λ f) mine)

@@ -2,7 +2,7 @@
 --     rest_of n b          the code b behind its first n statements
 -- Assumes nothing.
 use Prim.Native.Nat.{ℕ, zero, suc}
-use mir.Syntax.{Body, seq, assign, block, loop, switch, call, cond, skip, exit, return}
+use mir.Syntax.{Body, seq, assign, block, loop, switch, call, cond, skip, exit, return, unreachable, call_v, lend_static}
 
 abbrev tail : Body → Body
 tail skip = skip
@@ -15,6 +15,9 @@ tail (switch c arms) = skip
 tail (exit n) = skip
 tail return = skip
 tail (call f xs d) = skip
+tail unreachable = skip
+tail (call_v f s xs d) = skip
+tail (lend_static p t c) = skip
 
 abbrev pub rest_of : ℕ → Body → Body
 rest_of zero b = b
