@@ -1,0 +1,32 @@
+-- `replacer::apply` meets its contract: the verdict on the proposal comes first, then its gain and the room.
+-- Assumes nothing.
+use mathlib.Core.Path.{◌≡◌, sym, ap, ◌∙◌}
+use mathlib.Core.Option.{none}
+use Rattle.graph.specs.Graph.{graph_of}
+use Rattle.graph.specs.Lent.{buffers_of}
+use Rattle.graph.specs.Refuse.{first_refusal, verdict_is}
+use Rattle.replacement.specs.Calls.{proposal_refusals}
+use Rattle.replacer.proofs.Replacing.{apply_refused, replacing_known, apply_replaces}
+use Rattle.replacer.proofs.apply.Goals as goal
+use Rattle.replacer.proofs.apply.Goals.{After-replace-arg-in-Fine-1}
+
+-- the proposal has no refusal of its own
+fine : (c : After-replace-arg-in-Fine-1) → first_refusal (proposal_refusals (graph_of c.args.inputs c.args.gates.now c.args.outputs.now) c.args.root.0 c.args.leaves c.args.proposal) ≡ none
+unfolding verdict_is
+fine c = sym c.proposal_verdict.ensures ∙ rw c.in-Fine.is
+
+pub replace-requires : goal.replace-requires
+replace-requires c =
+    replacing_known (graph_of c.args.inputs c.args.gates.now c.args.outputs.now) _ c.args.leaves _ (buffers_of c.args.words.now c.args.results.now) (fine c)
+
+pub returns-in-Refused : goal.returns-in-Refused
+unfolding verdict_is
+returns-in-Refused c =
+    let first = sym c.proposal_verdict.ensures ∙ ap verdict_is c.in-Refused.is in
+    apply_refused (graph_of c.args.inputs c.args.gates.now c.args.outputs.now) c.args.root.0 c.args.leaves c.args.proposal (buffers_of c.args.words.now c.args.results.now)
+    c.in-Refused.refusal first
+
+pub returns-in-Fine : goal.returns-in-Fine
+returns-in-Fine c =
+    c.replace.ensures
+    ∙ apply_replaces (graph_of c.args.inputs c.args.gates.now c.args.outputs.now) c.args.root.0 c.args.leaves c.args.proposal (buffers_of c.args.words.now c.args.results.now) (fine (goal.at.returns-in-Fine c).After-replace-arg-in-Fine-1)

@@ -1,0 +1,50 @@
+-- `replacer::finish::mark_kept` meets its contract: what the literals reach is marked, and the root where an AND stands there.
+-- Assumes nothing.
+use mathlib.Core.Path.{ap, ◌∙◌, subst⁻¹}
+use mathlib.Core.Bool.{Bool, true}
+use mathlib.Core.List.{List}
+use Prim.Native.Nat.{◌<◌}
+use native.Mathlib.Omega.{arith}
+use lib.ListN.{length, set, take}
+use Rattle.graph.specs.Graph.{net_of}
+use Rattle.checker.specs.Marks.{marks_in}
+use Rattle.weigher.specs.Held.{set_each}
+use Rattle.weigher.proofs.Steps.{set_each_length}
+use Rattle.replacer.specs.Finishing.{KeptPast}
+use Rattle.replacer.proofs.Finishing.{literals_within, literal_keeps, and_keeps}
+use Rattle.replacer.proofs.finish.mark_kept.Goals as goal
+use Rattle.replacer.proofs.finish.mark_kept.Goals.{After-set_mark-arg-1}
+
+-- the root has a mark there
+root_marked : (h : After-set_mark-arg-1) → h.args.root.0 < length (set_each true (take h.mark_reached.result h.mark_reached.new.list) (marks_in h.args.marks.now))
+root_marked h =
+    let long = set_each_length true (take h.mark_reached.result h.mark_reached.new.list) (marks_in h.args.marks.now) in
+    let gate = h.requires.gate.0 in
+    omega (arith, long, h.requires.walkable)
+
+pub mark_reached-requires : goal.mark_reached-requires
+mark_reached-requires c =
+    record { walkable = c.requires.walkable; first_bound = literals_within (net_of c.args.inputs c.args.gates.now) c.args.root.0 c.args.proposal c.requires.gate.0 c.requires.gate.1 }
+
+pub set_mark-requires : goal.set_mark-requires
+set_mark-requires c =
+    subst⁻¹ (λ (ms : List Bool). c.args.root.0 < length ms) c.mark_reached.ensures.marks_after (root_marked c)
+
+pub returns-then-proposal-ne0 : goal.returns-then-proposal-ne0
+returns-then-proposal-ne0 c =
+    let net = net_of c.args.inputs c.args.gates.now in
+    let given = marks_in c.args.marks.now in
+    let a = c.args in
+    subst⁻¹ (KeptPast net given a.root.0 a.proposal)
+    (c.set_mark.ensures ∙ ap (λ (ms : List Bool). set ms a.root.0 true) c.mark_reached.ensures.marks_after)
+    (and_keeps net c.requires.walkable.0 a.root.0 c.requires.gate.0 a.proposal c.requires.gate.1 given c.mark_reached.new.list c.mark_reached.result
+    c.mark_reached.ensures.holding c.if-proposal-ne0.true (root_marked (goal.at.returns-then-proposal-ne0 c).After-set_mark-arg-1))
+
+pub returns-else-proposal-ne0 : goal.returns-else-proposal-ne0
+returns-else-proposal-ne0 c =
+    let net = net_of c.args.inputs c.args.gates.now in
+    let given = marks_in c.args.marks.now in
+    let a = c.args in
+    subst⁻¹ (KeptPast net given a.root.0 a.proposal) c.mark_reached.ensures.marks_after
+    (literal_keeps net c.requires.walkable.0 a.root.0 c.requires.gate.0 a.proposal c.requires.gate.1 given c.mark_reached.new.list
+    c.mark_reached.result c.mark_reached.ensures.holding c.if-proposal-ne0.false)

@@ -1,0 +1,22 @@
+-- What the loop keeps, and how far it has to go.
+use mathlib.Core.Bool.{Bool}
+use mathlib.Core.List.{List}
+use Prim.Native.Nat.{ℕ, suc, ◌+◌, ◌-◌, ◌/◌}
+use lib.ListN.{length}
+use Rattle.graph.specs.Graph.{Net, net_of, free, size}
+use Rattle.graph.proofs.Lent.{Pieces}
+use Rattle.checker.specs.Marks.{marks_in}
+use Rattle.replacement.specs.Rewire.{rewired_net}
+use Rattle.replacer.specs.Finishing.{kept_words}
+use Rattle.replacer.proofs.finish.put_gates.Given as goal
+
+-- what is left of each gate
+abbrev pub piece : Net → List Bool → List ℕ → ℕ → List ℕ
+piece net ms ns k = kept_words net ms ns (suc (free net + k))
+
+abbrev pub invariant-loop-k : goal.invariant-loop-k
+invariant-loop-k l = let net = rewired_net (net_of l.inputs l.gates) l.root.0 l.proposal in
+    Pieces (piece net (marks_in l.marks) l.numbers) (size net) 0 l.initial.words l.k l.at l.words
+
+abbrev pub decreases-loop-k : goal.decreases-loop-k
+decreases-loop-k l = length l.gates / 2 - l.k

@@ -1,0 +1,22 @@
+-- What the loop keeps, and how far it has to go.
+use mathlib.Core.Path.{◌≡◌, ap}
+use mathlib.Core.List.{List, map}
+use Prim.Native.Nat.{ℕ, ◌-◌, ◌≤◌}
+use lib.ListN.{length, take}
+use Rattle.graph.specs.Lent.{written}
+use Rattle.replacement.specs.declared.types.Proposal.{Proposal}
+use Rattle.replacement.specs.Rewire.{redirected}
+use Rattle.replacer.specs.Finishing.{by_numbers}
+use Rattle.replacer.proofs.finish.put_outputs.Given as goal
+
+-- an output redirected and renumbered
+abbrev pub word : ℕ → Proposal → List ℕ → ℕ → ℕ
+word root p ns l = by_numbers ns (redirected root p l)
+
+abbrev pub invariant-loop-k : goal.invariant-loop-k
+invariant-loop-k l = (l.k ≤ length l.outputs)
+    × (length l.results ≡ length l.initial.results)
+    × (l.results ≡ written (take l.k (map (word l.root.0 l.proposal l.numbers) l.outputs)) l.initial.results)
+
+abbrev pub decreases-loop-k : goal.decreases-loop-k
+decreases-loop-k l = length l.outputs - l.k

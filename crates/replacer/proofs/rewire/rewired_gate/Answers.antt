@@ -1,0 +1,38 @@
+-- `replacer::rewire::rewired_gate` meets its contract: its tests are the definition's, and each of the three gates is put larger first.
+-- Assumes nothing.
+use mathlib.Core.Path.{◌≡◌, refl, sym, ap, ap₂, ◌∙◌}
+use Prim.Native.Nat.{ℕ, max, min}
+use Rattle.graph.specs.Graph.{net_of, first, second}
+use Rattle.replacement.specs.Rewire.{redirected}
+use Rattle.replacement.proofs.Rewire.{and_kind, other_gate, literal_root, and_root}
+use Rattle.replacer.proofs.rewire.rewired_gate.Goals as goal
+
+-- the larger and the smaller of the two literals that a gate is over are its words
+over : {f s a b x y m n : ℕ} → (f ≡ max a b) × (s ≡ min a b) → x ≡ a → y ≡ b → m ≡ max x y → n ≡ min x y → (m ≡ f) × (n ≡ s)
+over h i j p q = (p ∙ ap₂ max i j ∙ sym h.0, q ∙ ap₂ min i j ∙ sym h.1)
+
+pub returns-then-v-root : goal.returns-then-v-root
+returns-then-v-root c =
+    let a = c.args in
+    let moved = redirected a.root.0 a.proposal in
+    let both = over (other_gate (net_of a.inputs a.gates.now) a.root.0 a.proposal a.v.0 c.requires.1 c.if-v-root.true)
+    (c.redirected-first.ensures ∙ ap moved c.fanins_of-gate.ensures.first_value) (c.redirected-second.ensures ∙ ap moved c.fanins_of-gate.ensures.second_value)
+    c.larger_first.ensures.first_value c.larger_first.ensures.second_value in
+    record { first_value = both.0; second_value = both.1 }
+
+pub returns-then-proposal-eq0 : goal.returns-then-proposal-eq0
+returns-then-proposal-eq0 c =
+    let a = c.args in
+    let net = net_of a.inputs a.gates.now in
+    let both = over (literal_root net a.root.0 a.proposal a.v.0 c.requires.1 c.if-v-root.false c.if-proposal-eq0.true)
+    (c.fanins_of-gate.ensures.first_value ∙ ap (first net) c.if-v-root.false) (c.fanins_of-gate.ensures.second_value ∙ ap (second net) c.if-v-root.false)
+    c.larger_first-then-proposal-eq0.ensures.first_value c.larger_first-then-proposal-eq0.ensures.second_value in
+    record { first_value = both.0; second_value = both.1 }
+
+pub returns : goal.returns
+returns c =
+    let a = c.args in
+    let kind = (and_kind a.root.0 a.proposal c.requires.2 c.if-proposal-eq0.false).0 in
+    let both = over (and_root (net_of a.inputs a.gates.now) a.root.0 a.proposal a.v.0 c.requires.1 c.if-v-root.false kind)
+    refl refl c.larger_first-2.ensures.first_value c.larger_first-2.ensures.second_value in
+    record { first_value = both.0; second_value = both.1 }
