@@ -6,7 +6,6 @@ use mathlib.Core.List.{List}
 use mathlib.Core.Option.{none, some}
 use Prim.Native.Nat.{ℕ, ◌+◌, ◌≤◌, ◌<◌}
 use native.Mathlib.Omega.{arith}
-use borrow.Author.Rules.{rules}
 use borrow.Author.Tests.{le-ltb, eq-eqb, ne_eqb}
 use lib.ListN.{length}
 use Rattle.graph.specs.declared.refusal.Refusal.TheVariants.{TooLarge, Latches, BadCount}
@@ -15,8 +14,7 @@ use Rattle.graph.specs.Graph.{most_inputs, most_outputs, most_gates}
 use Rattle.text.specs.declared.header.Header.{Header}
 use Rattle.text.specs.Reading.{free_of, most_bytes, header_refusals}
 use Rattle.text.proofs.Reading.{large_iff}
-use Rattle.reader.proofs.header.header_verdict.Statement.{statement}
-use Rattle.reader.proofs.header.header_verdict.Tie as tie
+use Rattle.reader.proofs.header.header_verdict.Goals as goal
 
 module _ (t : List ℕ) (h : Header) where
   large : ((most_inputs < h.inputs ⊎ most_outputs < h.outputs) ⊎ most_gates < h.gates) ⊎ most_bytes < length t
@@ -37,62 +35,30 @@ module _ (t : List ℕ) (h : Header) where
     unfolding header_refusals first_refusal
     fine l n = rw (le-ltb _ _ i, le-ltb _ _ o, le-ltb _ _ a, le-ltb _ _ b, eq-eqb _ _ l, eq-eqb _ _ n)
 
-cast-if1 : tie.Need-overflow-cast-if1
-cast-if1 c = search rules
-
-returns : tie.Need-returns
+pub returns-then-header-gt-MOST_INPUTS : goal.returns-then-header-gt-MOST_INPUTS
 unfolding verdict_is
-returns c = sym (large _ _ (inl (inl (inl (omega arith)))))
+returns-then-header-gt-MOST_INPUTS c = sym (large _ _ (inl (inl (inl (omega arith)))))
 
-cast-if2 : tie.Need-overflow-cast-if2
-cast-if2 c = search rules
-
-returns-2 : tie.Need-returns-2
+pub returns-then-header-gt-MOST_OUTPUTS : goal.returns-then-header-gt-MOST_OUTPUTS
 unfolding verdict_is
-returns-2 c = sym (large _ _ (inl (inl (inr (omega arith)))))
+returns-then-header-gt-MOST_OUTPUTS c = sym (large _ _ (inl (inl (inr (omega arith)))))
 
-cast-if3 : tie.Need-overflow-cast-if3
-cast-if3 c = search rules
-
-returns-3 : tie.Need-returns-3
+pub returns-then-header-gt-MOST_GATES : goal.returns-then-header-gt-MOST_GATES
 unfolding verdict_is
-returns-3 c = sym (large _ _ (inl (inr (omega arith))))
+returns-then-header-gt-MOST_GATES c = sym (large _ _ (inl (inr (omega arith))))
 
-returns-4 : tie.Need-returns-4
+pub returns-then-text-gt-MOST_BYTES : goal.returns-then-text-gt-MOST_BYTES
 unfolding verdict_is
-returns-4 c = sym (large _ _ (inr (omega arith)))
+returns-then-text-gt-MOST_BYTES c = sym (large _ _ (inr (omega arith)))
 
-returns-5 : tie.Need-returns-5
+pub returns-then-header-ne0 : goal.returns-then-header-ne0
 unfolding verdict_is
-returns-5 c = sym (latches _ _ (omega arith) (omega arith) (omega arith) (omega arith) c.if5.true)
+returns-then-header-ne0 c = sym (latches _ _ (omega arith) (omega arith) (omega arith) (omega arith) c.if-header-ne0.true)
 
-free-requires : tie.Need-free-requires
-free-requires c κs = search rules
-
-add-if6 : tie.Need-overflow-add-if6
-add-if6 c = search rules
-
-returns-6 : tie.Need-returns-6
+pub returns-then-header-free : goal.returns-then-header-free
 unfolding verdict_is
-returns-6 c = sym (bad_count _ _ (omega arith) (omega arith) (omega arith) (omega arith) (omega arith) (λ e. c.if6.true (omega arith)))
+returns-then-header-free c = sym (bad_count _ _ (omega arith) (omega arith) (omega arith) (omega arith) (omega arith) (λ e. c.if-header-free.true (omega arith)))
 
-returns-7 : tie.Need-returns-7
+pub returns : goal.returns
 unfolding verdict_is
-returns-7 c = sym (fine _ _ (omega arith) (omega arith) (omega arith) (omega arith) (omega arith) (omega arith))
-
-pub header-verdict-spec : {M : Type 1} → statement M
-header-verdict-spec =
-    tie.close
-    (tie.spec
-    cast-if1
-    returns
-    cast-if2
-    returns-2
-    cast-if3
-    returns-3
-    returns-4
-    returns-5
-    free-requires
-    add-if6
-    returns-6
-    returns-7)
+returns c = sym (fine _ _ (omega arith) (omega arith) (omega arith) (omega arith) (omega arith) (omega arith))
