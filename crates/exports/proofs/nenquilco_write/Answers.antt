@@ -1,0 +1,19 @@
+-- `exports::nenquilco_write` meets its contract: what `writer::write` answers, told in numbers.
+-- Assumes nothing.
+use mathlib.Core.Path.{◌∙◌}
+use Rattle.graph.specs.Lent.{written}
+use Rattle.text.specs.Calls.{written_outcome}
+use Rattle.exports.proofs.Exported.{answer_told}
+use Rattle.exports.proofs.nenquilco_write.Goals as goal
+
+pub returns-in-Refused : goal.returns-in-Refused
+unfolding written_outcome written
+returns-in-Refused c =
+    let q = c.in-Refused.is in
+    answer_told written_outcome _ _ _ c.write.ensures _ (c.number.ensures ∙ rw q) _ _ (rw q)
+
+pub returns-in-Bytes : goal.returns-in-Bytes
+unfolding written_outcome written
+returns-in-Bytes c =
+    let q = c.in-Bytes.is in
+    answer_told written_outcome _ _ _ c.write.ensures _ (rw q) _ _ (rw q)
