@@ -1,5 +1,5 @@
-// The public calls for programs in other languages, on numbers and slices. Each answers document 01's number, which is 0 where the
-// call is accepted; what else it answers goes through references, which a refusal leaves as they were.
+// The public calls on numbers and slices, as programs in other languages have them by `exports_c`. Each answers the refusal's number, which
+// is 0 where the call is accepted; what else it answers goes through references, which a refusal leaves as they were.
 #![tactic(auto)]
 
 ghost use Rattle.std.specs.Prelude.{◌≡◌, [], ◌∷◌};
@@ -27,8 +27,7 @@ use text::{ReadText, WrittenText};
 use window::Leaves;
 
 // Reads a text; i, a and o get the counts of inputs, gates and outputs.
-#[unsafe(no_mangle)]
-pub extern "C" fn nenquilco_read(
+pub fn nenquilco_read(
     text: &[u8],
     gates: &mut [u32],
     outputs: &mut [u32],
@@ -57,8 +56,7 @@ pub extern "C" fn nenquilco_read(
 }
 
 // Writes a graph's text; n gets its number of bytes.
-#[unsafe(no_mangle)]
-pub extern "C" fn nenquilco_write(
+pub fn nenquilco_write(
     inputs: usize,
     gates: &[u32],
     outputs: &[u32],
@@ -79,8 +77,7 @@ pub extern "C" fn nenquilco_write(
 }
 
 // Evaluates a graph under an assignment; n gets the number of its outputs.
-#[unsafe(no_mangle)]
-pub extern "C" fn nenquilco_evaluate(
+pub fn nenquilco_evaluate(
     inputs: usize,
     gates: &[u32],
     outputs: &[u32],
@@ -103,8 +100,7 @@ pub extern "C" fn nenquilco_evaluate(
 }
 
 // Picks a root's leaves; n gets their number, and a to f the six places.
-#[unsafe(no_mangle)]
-pub extern "C" fn nenquilco_pick(
+pub fn nenquilco_pick(
     inputs: usize,
     gates: &[u32],
     outputs: &[u32],
@@ -151,8 +147,7 @@ fn leaves_at(n: usize, a: u32, b: u32, c: u32, d: u32, e: u32, f: u32) -> Leaves
 }
 
 // Asks for a root's table over n leaves in the six places a to f; bits gets its 64 bits.
-#[unsafe(no_mangle)]
-pub extern "C" fn nenquilco_table(
+pub fn nenquilco_table(
     inputs: usize,
     gates: &[u32],
     outputs: &[u32],
@@ -183,8 +178,7 @@ pub extern "C" fn nenquilco_table(
 }
 
 // Applies a proposal at a root over n leaves in the six places a to f; x and y get the finished graph's counts of gates and outputs.
-#[unsafe(no_mangle)]
-pub extern "C" fn nenquilco_apply(
+pub fn nenquilco_apply(
     inputs: usize,
     gates: &[u32],
     outputs: &[u32],

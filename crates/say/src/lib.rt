@@ -1,35 +1,34 @@
-// What the runs of the public calls print.
+// What the runs of the public calls print, through the handle that `main` is given.
+#![tactic(auto)]
+
 use graph::Refusal;
-use libc::STDOUT_FILENO;
+use std::io;
 
-pub fn say(words: &[u8]) {
-    io::write_all(STDOUT_FILENO, words);
+pub fn say(rt: &impl Print, words: &[u8]) -> io::Result<()> {
+    rt.write_all(words)
 }
 
-pub fn say_number(number: u64) {
-    say(b" ");
-    io::print_decimal(STDOUT_FILENO, number);
+pub fn say_number(rt: &impl Print, number: u64) -> io::Result<()> {
+    print!(rt; " {number}")
 }
 
-pub fn say_word(word: u32) {
-    say_number(word as u64);
+pub fn say_word(rt: &impl Print, word: u32) -> io::Result<()> {
+    say_number(rt, word as u64)
 }
 
-pub fn say_refusal(refusal: Refusal) {
-    say_word(refusal.number());
+pub fn say_refusal(rt: &impl Print, refusal: Refusal) -> io::Result<()> {
+    say_word(rt, refusal.number())
 }
 
-pub fn say_words(words: &[u32]) {
-    say(b" |");
-    let mut k = 0;
-    while k < words.len() {
-        say_word(words[k]);
-        k += 1;
+pub fn say_words(rt: &impl Print, words: &[u32]) -> io::Result<()> {
+    say(rt, b" |")?;
+    for word in words {
+        say_word(rt, *word)?;
     }
+    Ok(())
 }
 
 // The 64 bits of a table in hexadecimal.
-pub fn say_bits(bits: u64) {
-    say(b" ");
-    io::print_hex(STDOUT_FILENO, bits, 16);
+pub fn say_bits(rt: &impl Print, bits: u64) -> io::Result<()> {
+    print!(rt; " {bits:016x}")
 }
