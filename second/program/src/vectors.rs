@@ -15,19 +15,18 @@ use std::io::{self, Write};
 const SEED: u64 = 1;
 
 const HEADER: &str = "\
-use mathlib.Core.Path.{_≡_, refl}
-use mathlib.Core.List.{[], _∷_}
-use Rattle·graph.specs.Graph.{graphOf}
-use Rattle·promises.specs.Calls.{
+use Rattle.std.specs.Prelude.{◌≡◌, refl, [], ◌∷◌}
+use Rattle.graph.specs.Graph.{graph_of}
+use Rattle.promises.specs.Calls.{
   buffers,
-  readCall,
-  writeCall,
-  evaluateCall,
-  pickCall,
-  tableCall,
-  listCall,
-  applyCall,
-  runCall,
+  read_call,
+  write_call,
+  evaluate_call,
+  pick_call,
+  table_call,
+  list_call,
+  apply_call,
+  run_call,
 }
 ";
 
@@ -57,7 +56,7 @@ fn print_row(number: usize, row: &Row, out: &mut dyn Write) -> io::Result<()> {
     } = row;
     let (arguments, says) = (arguments.join(" "), notation::list(says));
     writeln!(out)?;
-    writeln!(out, "row-{number} : {call} {arguments} ≡ {says}")?;
+    writeln!(out, "row_{number} : {call} {arguments} ≡ {says}")?;
     writeln!(out, "unfolding {call}")?;
-    writeln!(out, "row-{number} = refl")
+    writeln!(out, "row_{number} = refl")
 }

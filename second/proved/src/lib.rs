@@ -1,4 +1,4 @@
-//! The proved calls, as the crate `exports` offers them. Nothing checks these
+//! The proved calls, as the crate `exports_c` offers them. Nothing checks these
 //! declarations against the Rattle source, so they keep to numbers and slices:
 //! a slice is passed as a pointer and a length.
 

@@ -14,7 +14,7 @@ pub fn buffers(gates: usize, outputs: usize) -> String {
 
 pub fn graph(graph: &Graph) -> String {
     let (gates, outputs) = (list(&graph.gates), list(&graph.outputs));
-    format!("(graphOf {} {gates} {outputs})", graph.inputs)
+    format!("(graph_of {} {gates} {outputs})", graph.inputs)
 }
 
 pub fn leaves(leaves: &Leaves) -> String {

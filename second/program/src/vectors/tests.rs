@@ -8,14 +8,14 @@ use samples::Random;
 /// Each call, how often each of its answers must come at least, and these. It
 /// gives no others: a finished graph is well formed, so 15 is never given.
 const ANSWERS: [(&str, usize, &[u64]); 8] = [
-    ("readCall", 3, &[0, 1, 2, 3, 4, 5, 6, 16]),
-    ("writeCall", 3, &[0, 7, 16]),
-    ("evaluateCall", 3, &[0, 7, 8, 16]),
-    ("pickCall", 3, &[0, 7, 9]),
-    ("tableCall", 3, &[0, 7, 9, 10, 11]),
-    ("listCall", 2, &[0, 7, 9, 10, 11, 16]),
-    ("applyCall", 3, &[0, 7, 9, 10, 11, 12, 13, 14, 16]),
-    ("runCall", 3, &[0, 7, 16]),
+    ("read_call", 3, &[0, 1, 2, 3, 4, 5, 6, 16]),
+    ("write_call", 3, &[0, 7, 16]),
+    ("evaluate_call", 3, &[0, 7, 8, 16]),
+    ("pick_call", 3, &[0, 7, 9]),
+    ("table_call", 3, &[0, 7, 9, 10, 11]),
+    ("list_call", 2, &[0, 7, 9, 10, 11, 16]),
+    ("apply_call", 3, &[0, 7, 9, 10, 11, 12, 13, 14, 16]),
+    ("run_call", 3, &[0, 7, 16]),
 ];
 
 #[test]
@@ -44,7 +44,7 @@ fn equal_seeds_give_equal_rows_and_none_comes_twice() {
 
 /// A sampler that a change makes too tame is noticed.
 #[test]
-#[should_panic(expected = "evaluateCall: no sample is of the sort: no answer")]
+#[should_panic(expected = "evaluate_call: no sample is of the sort: no answer")]
 fn a_sort_that_is_not_met_is_named() {
     let sort: Sort<Evaluate> = (1, "no answer", |_, told| told.answer.is_empty());
     sorts::add(&[sort], &mut Random::new(SEED), &mut Vec::new());

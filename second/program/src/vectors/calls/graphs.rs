@@ -13,7 +13,7 @@ pub struct Evaluate {
 }
 
 impl Call for Evaluate {
-    const NAME: &'static str = "evaluateCall";
+    const NAME: &'static str = "evaluate_call";
 
     fn draw(random: &mut Random) -> Evaluate {
         let graph = any_graph(random, small);
@@ -65,7 +65,7 @@ fn in_use(graph: &Graph) -> usize {
 }
 
 impl Call for Run {
-    const NAME: &'static str = "runCall";
+    const NAME: &'static str = "run_call";
 
     fn draw(random: &mut Random) -> Run {
         let graph = any_graph(random, tiny);

@@ -31,7 +31,7 @@ fn any_text(random: &mut Random, graph: &Graph) -> Vec<u8> {
 }
 
 impl Call for Read {
-    const NAME: &'static str = "readCall";
+    const NAME: &'static str = "read_call";
 
     fn draw(random: &mut Random) -> Read {
         let graph = small(random);
@@ -62,7 +62,7 @@ pub struct Write {
 }
 
 impl Call for Write {
-    const NAME: &'static str = "writeCall";
+    const NAME: &'static str = "write_call";
 
     fn draw(random: &mut Random) -> Write {
         let graph = any_graph(random, small);

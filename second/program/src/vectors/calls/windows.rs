@@ -15,7 +15,7 @@ pub struct Pick {
 }
 
 impl Call for Pick {
-    const NAME: &'static str = "pickCall";
+    const NAME: &'static str = "pick_call";
 
     fn draw(random: &mut Random) -> Pick {
         let Site { graph, root, .. } = Site::draw(random, wide);
@@ -38,7 +38,7 @@ pub struct Table {
 }
 
 impl Call for Table {
-    const NAME: &'static str = "tableCall";
+    const NAME: &'static str = "table_call";
 
     fn draw(random: &mut Random) -> Table {
         let site = Site::draw(random, middling);
@@ -107,7 +107,7 @@ impl List {
 }
 
 impl Call for List {
-    const NAME: &'static str = "listCall";
+    const NAME: &'static str = "list_call";
 
     fn draw(random: &mut Random) -> List {
         let site = Site::draw(random, small);
@@ -156,7 +156,7 @@ fn finished(site: &Site, proposal: &Proposal) -> Option<Graph> {
 }
 
 impl Call for Apply {
-    const NAME: &'static str = "applyCall";
+    const NAME: &'static str = "apply_call";
 
     fn draw(random: &mut Random) -> Apply {
         let site = Site::draw(random, middling);
