@@ -1,4 +1,6 @@
 // Runs of picking leaves and of asking for a root's table.
+ghost use Rattle.std.specs.Prelude.{◌≤◌, IfOk, length};
+
 use graph::{Var, Verdict};
 use say::{say, say_bits, say_number, say_refusal, say_word};
 use std::io;
@@ -68,13 +70,28 @@ fn gate_limit(rt: &impl Print) -> io::Result<()> {
     picks(rt, b"1,025 gates", 0, &gates, &[2048], 1024)
 }
 
+// Reads until the bytes are full or the input ends, and says how many there are.
+fn read_full<R: Read>(reader: &mut R, bytes: &mut [u8]) -> io::Result<usize>
+    ensures { IfOk result (λ n. n ≤ length bytes.new) }
+{
+    let mut got = 0;
+    for _ in 0..bytes.len() {
+        let n = reader.read(&mut bytes[got..])?;
+        if n == 0 {
+            break;
+        }
+        got += n;
+    }
+    Ok(got)
+}
+
 // Standard input has the leaf rule's worst root: some 130,000 expansions.
-fn ladder<R: Print + Input + Alloc>(rt: &R) -> io::Result<()> {
-    let mut text = Vec::new(rt.alloc());
-    rt.reader().read_to_end(&mut text)?;
+fn ladder<R: Print + Input>(rt: &R) -> io::Result<()> {
+    let mut text = [0u8; 65536];
+    let got = read_full(&mut rt.reader(), &mut text)?;
     let mut gates = [0u32; 2048];
     let mut output = [0u32; 1];
-    reader::read(&text, &mut gates, &mut output);
+    reader::read(&text[..got], &mut gates, &mut output);
     picks(rt, b"the ladder", 5, &gates, &output, 1029)
 }
 
@@ -227,7 +244,7 @@ fn and_of_six(rt: &impl Print, name: &[u8], count: usize) -> io::Result<()> {
     )
 }
 
-pub fn run<R: Print + Input + Alloc>(rt: &R) -> io::Result<()> {
+pub fn run<R: Print + Input>(rt: &R) -> io::Result<()> {
     roots_in_use(rt)?;
     bad_roots(rt)?;
     unused_roots(rt)?;
