@@ -86,3 +86,6 @@ module _ (i : ℕ) (gs os : List ℕ) where
   pub many_gates : most_gates < length gs / 2 → well_formed (graph_of i gs os) ≡ false
   unfolding rules
   many_gates h = fails 5 (lt-leb (length gs / 2) most_gates h)
+
+-- what each test of a whole graph decides
+pub ruleset whole_graph = (well_by_gates, odd_length, wrong_output, many_inputs, many_outputs, many_gates)

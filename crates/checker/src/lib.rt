@@ -18,6 +18,7 @@ fn wide(word: u32) -> usize
 }
 
 // Gate k, from 0, has its larger literal first, and both are below its own.
+#[tactic(auto, using(crate::proofs::Checks::gate_bad, crate::proofs::Checks::gate_good))]
 fn gate_ok(inputs: usize, gates: &[u32], k: usize) -> bool
     requires { (inputs ≤ most_inputs) × (k < most_gates) × (2 * k + 1 < length gates.now) }
     ensures { result ≡ gate_ok (net_of inputs gates.now) (suc (inputs + k)) }
@@ -61,6 +62,7 @@ fn outputs_ok(most: usize, outputs: &[u32]) -> bool
 }
 
 // A lent graph keeps the rules and the limits.
+#[tactic(auto, using(crate::proofs::Checks::whole_graph))]
 pub fn well_formed(inputs: usize, gates: &[u32], outputs: &[u32]) -> bool
     ensures { result ≡ well_formed (graph_of inputs gates.now outputs.now) }
 {

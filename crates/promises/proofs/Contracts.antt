@@ -196,7 +196,7 @@ pub not_read_back : (g : Graph) (lent bytes : List ℕ) (q : Refusal) (b : Buffe
 unfolding read_back
 not_read_back g lent bytes q b refused-now = ap (λ (e : Effect WrittenText (List ℕ)). read_back e b) refused-now
 
--- a well_formed_lem graph with room for its text is not refused
+-- a well-formed graph with room for its text is not refused
 pub written_with_room : (g : Graph) (lent bytes : List ℕ) (q : Refusal) → WrittenText.Refused q leaving bytes ≡ write_effect g lent
     → WellFormed g
     → length (text_of g) ≤ length lent → ⊥

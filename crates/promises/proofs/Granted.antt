@@ -59,7 +59,7 @@ stated_text_is_read t b g stated room =
     rw (reads_graph t b g ((reading_iff t g).1 stated) ((room_iff g b).1 room))
     (record { counts_told = refl; holds = holds_stored g b stated.is_well_formed })
 
--- a well_formed_lem graph, and room for its text
+-- a well-formed graph, and room for its text
 module _ (g : Graph) (lent : List ℕ) (ok : WellFormed g) (room : length (text_of g) ≤ length lent) where
   pub writing_has_no_refusal : (q : Refusal) → ¬ WriteGiven g lent q
   writing_has_no_refusal q (WriteGiven.bad_graph n) = n ok
@@ -70,7 +70,7 @@ module _ (g : Graph) (lent : List ℕ) (ok : WellFormed g) (room : length (text_
 
 -- ---- values
 
--- a well_formed_lem graph, as many values as it has inputs, each 0 or 1, and room for one an output
+-- a well-formed graph, as many values as it has inputs, each 0 or 1, and room for one an output
 module _ (g : Graph) (vs lent : List ℕ) (ok : WellFormed g) (assigns : Assignment g.net vs)
     (room : length g.outputs ≤ length lent) where
   evaluating_has_no_refusal : (q : Refusal) → ¬ EvaluateGiven g vs lent q
@@ -83,7 +83,7 @@ module _ (g : Graph) (vs lent : List ℕ) (ok : WellFormed g) (assigns : Assignm
 
 -- ---- windows
 
--- a well_formed_lem graph and a gate of it in use: the leaves that the rule picks make a window
+-- a well-formed graph and a gate of it in use: the leaves that the rule picks make a window
 module _ (g : Graph) (root : ℕ) (ok : WellFormed g) (used : InUse g root) where
   picking_has_no_refusal : (q : Refusal) → ¬ RootGiven g root q
   picking_has_no_refusal q (RootGiven.bad_graph n) = n ok
@@ -92,7 +92,7 @@ module _ (g : Graph) (root : ℕ) (ok : WellFormed g) (used : InUse g root) wher
   pub gate_in_use_has_leaves : PickedAs g root (pick_answer g root)
   gate_in_use_has_leaves = pick_answers_leaves g root ((pick_answers g root).accepts.1 picking_has_no_refusal)
 
--- a window: a well_formed_lem graph, a gate of it in use, and leaves well set down below it that cut it
+-- a window: a well-formed graph, a gate of it in use, and leaves well set down below it that cut it
 module _ (g : Graph) (root : ℕ) (w : Leaves) (known : Window g root w) where
   window_has_no_refusal : (q : Refusal) → ¬ WindowGiven g root w q
   window_has_no_refusal q (WindowGiven.by_root h) = picking_has_no_refusal g root known.graph known.root_used q h
@@ -166,7 +166,7 @@ module _ (g : Graph) (root : ℕ) (w : Leaves) (p : Proposal) (b : Buffers) (goo
 
 -- ---- the run
 
--- a well_formed_lem graph, and room for it in the four lists
+-- a well-formed graph, and room for it in the four lists
 module _ (g : Graph) (b : RunBuffers) (ok : WellFormed g) (room : RoomFor g b.result) (work-room : RoomFor g b.work) where
   running_has_no_refusal : (q : Refusal) → ¬ RunGiven g b q
   running_has_no_refusal q (RunGiven.bad_graph n) = n ok

@@ -76,7 +76,7 @@ module _ (g : Graph) (ok : WellFormed g) (root : ℕ) (gate : IsGate g.net root)
 
 -- ---- the list
 
--- for a gate of a well_formed_lem graph: every good replacement, nothing else, each once, in order
+-- for a gate of a well-formed graph: every good replacement, nothing else, each once, in order
 pub list_is_the_list : (g : Graph) → WellFormed g → (root : ℕ) → IsGate g.net root → (w : Leaves)
     → IsTheList (GoodReplacement g root w) (listed g root w)
 list_is_the_list g ok root gate w = listed_is_every_good g ok.lawful root gate w

@@ -33,9 +33,9 @@ use Rattle.run.specs.Run.{NoneAt}
 use Rattle.run.specs.Calls.{RunBuffers}
 
 -- demand 1: the call's number is the one that the order of refusals selects, and a refusal writes nothing into lent memory
-pub record Settled {L : Type 0} (rank : Refusal → ℕ) (given : Refusal → Type 0) (number : ℕ) (lent-before lent-after : L) : Type 0 where
+pub record Settled {L : Type 0} (rank : Refusal → ℕ) (given : Refusal → Type 0) (number : ℕ) (lent_before lent_after : L) : Type 0 where
   pub answers : Answers rank given number
-  pub writes_nothing : (r : Refusal) → number ≡ number_of r → lent-after ≡ lent-before
+  pub writes_nothing : (r : Refusal) → number ≡ number_of r → lent_after ≡ lent_before
 
 -- demand 2: the graph h in the place of g. What `outputs_under` says is restated in `Meaning`, from `zero_is_false` on
 pub record Keeps (g h : Graph) : Type 0 where
@@ -135,7 +135,7 @@ unfolding read_effect
 read_back w b =
     elim w.answer [ WrittenText.Bytes n ↦ read_effect (take n w.lent) b | WrittenText.Refused r ↦ ReadText.Refused r leaving b ]
 
--- g was written into lent bytes and what was written read into lent lists: a well_formed_lem g for which there is room comes back
+-- g was written into lent bytes and what was written read into lent lists: a well-formed g for which there is room comes back
 abbrev pub WrittenAgain : Graph → List ℕ → Buffers → ReadText → Buffers → Type 0
 WrittenAgain g bytes before r after =
     WellFormed g → length (text_of g) ≤ length bytes → RoomFor g before
@@ -145,13 +145,13 @@ WrittenAgain g bytes before r after =
 abbrev pub Tabled : Graph → ℕ → Leaves → RootTable → Type 0
 Tabled g root w t = Window g root w → TableAs g root w t
 
--- g was evaluated into lent words: a well_formed_lem g under an assignment of its inputs, with room, leaves its outputs' values
+-- g was evaluated into lent words: a well-formed g under an assignment of its inputs, with room, leaves its outputs' values
 abbrev pub ValuesLeft : Graph → List ℕ → List ℕ → Evaluated → List ℕ → Type 0
 ValuesLeft g vs before r after =
     WellFormed g → Assignment g.net vs → length g.outputs ≤ length before
     → EvaluatedAs g vs before (r leaving after)
 
--- leaves were picked for a root, and its table asked for over them: at a gate in use of a well_formed_lem graph both are accepted
+-- leaves were picked for a root, and its table asked for over them: at a gate in use of a well-formed graph both are accepted
 abbrev pub PickedAndTabled : Graph → ℕ → Picked → RootTable → Type 0
 PickedAndTabled g root p t = WellFormed g → InUse g root → PickedAs g root p × TableAs g root p.leaves t
 

@@ -1,4 +1,6 @@
 // Reading a text into lists lent for its graph. The words are kept aside until the whole text is judged: a refusal writes nothing.
+#![tactic(auto)]
+
 mod aside;
 mod header;
 mod section;

@@ -42,7 +42,7 @@ unfoldable pub kept_words : Net → List Bool → List ℕ → ℕ → List ℕ
 unfolding by_numbers first second
 kept_words net ms ns v = cond (get_or ms v false) (by_numbers ns (first net v) ∷ by_numbers ns (second net v) ∷ []) []
 
--- what putting gates asks for: a well_formed_lem net, a proposal whose literals lie below a gate of it, a mark a variable, and small numbers
+-- what putting gates asks for: a well-formed net, a proposal whose literals lie below a gate of it, a mark a variable, and small numbers
 -- for all of them
 pub record Putting (net : Net) (root : ℕ) (p : Proposal) (ms : List Bool) (ns : List ℕ) : Type 0 where
   pub net_ok : WellFormedNet net

@@ -1,4 +1,4 @@
--- The text that is written for a well_formed_lem graph is short enough to be read, and reading it gives the graph back.
+-- The text that is written for a well-formed graph is short enough to be read, and reading it gives the graph back.
 -- Assumes nothing.
 use mathlib.Core.Path.{◌≡◌}
 use mathlib.Core.List.{List, [], ◌∷◌, ◌++◌, flat_map}

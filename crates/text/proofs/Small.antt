@@ -80,7 +80,7 @@ module _ (h : Header) where
         each_line (λ ns. length ns ≤ 3) (λ k m ns e. omega (arith, e.count)) (λ ns e. omega (arith, e.count))
         (λ k m ns e. omega (arith, e.count)) nss f
 
--- the largest number in the text of a well_formed_lem graph, 2(64 + 1024) + 1
+-- the largest number in the text of a well-formed graph, 2(64 + 1024) + 1
 abbrev pub most_stated : ℕ
 most_stated = 2177
 

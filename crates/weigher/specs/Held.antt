@@ -49,7 +49,7 @@ pub record Holding (net : Net) (ls : List ℕ) (ms : List Bool) (vs : List ℕ) 
   pub firsts_marked : (j : ℕ) → j < done → GateMarked net (set_each true vs ms) (var_of (first net (get_or vs j 0)))
   pub seconds_marked : (j : ℕ) → j < done → GateMarked net (set_each true vs ms) (var_of (second net (get_or vs j 0)))
 
--- what a walk asks for: a well_formed_lem net, a mark a variable, and a list with two places more than there are gates
+-- what a walk asks for: a well-formed net, a mark a variable, and a list with two places more than there are gates
 abbrev pub Walkable : Net → List Bool → List ℕ → Type 0
 Walkable net ms list = WellFormedNet net × (last net < length ms) × (suc (size net) < length list)
 

@@ -39,7 +39,7 @@ unfoldable pub covered_below : Net → Leaves → ℕ → List ℕ
 unfolding keep gather covered
 covered_below net w n = keep (covered net w) (gather (λ v. v ∷ []) n)
 
--- variable v passes this test; of the variables of a well_formed_lem graph just the covered ones do (`covered_iff`)
+-- variable v passes this test; of the variables of a well-formed graph just the covered ones do (`covered_iff`)
 abbrev pub Tested : Net → Leaves → ℕ → Type 0
 Tested net w v = covered net w v ≡ true
 

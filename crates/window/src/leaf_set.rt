@@ -112,6 +112,7 @@ impl Leaves {
     }
 
     // The leaves are well set down below the root, where the count and the places may be any numbers.
+    #[tactic(auto, using(crate::proofs::Places::well_set_by))]
     pub fn well_set(self, root: Var) -> bool
         ensures { result ≡ well_set root.0 self }
     {

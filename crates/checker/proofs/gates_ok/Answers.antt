@@ -1,13 +1,11 @@
 -- `checker::gates_ok` meets its contract: the gates before k pass.
 -- Assumes nothing.
 use mathlib.Core.Path.{◌≡◌, refl, sym, ◌∙◌}
-use mathlib.Core.Bool.{true}
-use Prim.Native.Nat.{◌-◌, ◌/◌}
+use Prim.Native.Nat.{◌/◌}
 use native.Mathlib.Omega.{arith}
 use borrow.Author.Rules.{rules}
 use lib.ListN.{length}
 use Rattle.graph.specs.Lists.{all_below}
-use Rattle.graph.specs.Graph.{gate_ok}
 use Rattle.checker.proofs.Checks.{all_more, all_stop}
 use Rattle.checker.proofs.gates_ok.Invariants.{passes}
 use Rattle.checker.proofs.gates_ok.Goals as goal

@@ -6,7 +6,7 @@ use mathlib.Core.List.{List, []}
 use mathlib.Core.Option.{none, some}
 use Prim.Native.Nat.{ℕ, ◌≤◌, ◌<◌}
 use native.Mathlib.Omega.{arith}
-use borrow.Author.Tests.{not-true, not-false, lt-ltb, le-ltb}
+use borrow.Author.Tests.{lt-ltb, le-ltb}
 use lib.ListN.{length}
 use Rattle.graph.specs.declared.refusal.Refusal.TheVariants.{BadGraph, BadAssignment, NoRoom}
 use Rattle.graph.specs.Graph.{Graph, net_of, graph_of, sinks, well_formed}

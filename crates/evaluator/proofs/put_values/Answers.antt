@@ -3,10 +3,10 @@
 use mathlib.Core.Path.{◌≡◌, refl, sym, ap, ap₂, ◌∙◌}
 use mathlib.Core.Bool.{Bool, false, cond}
 use mathlib.Core.List.{List, map}
-use Prim.Native.Nat.{ℕ, ◌-◌, ◌<◌}
+use Prim.Native.Nat.{ℕ, ◌<◌}
 use native.Mathlib.Omega.{arith}
 use borrow.Author.Rules.{rules}
-use lib.ListN.{length, get_or, take, set, length-set, length-map}
+use lib.ListN.{length, get_or, set, length-set, length-map}
 use lib.Seq.{take_all}
 use Rattle.graph.specs.Lent.{written}
 use Rattle.graph.specs.Sweep.{bools, lit_value}

@@ -1,4 +1,4 @@
--- `promises::evaluate_under` meets its contract: what an assignment of a well_formed_lem graph's inputs gives is left.
+-- `promises::evaluate_under` meets its contract: what an assignment of a well-formed graph's inputs gives is left.
 -- Assumes nothing.
 use Rattle.promises.proofs.Contracts.{assignment_was_evaluated}
 use Rattle.promises.proofs.evaluate_under.Goals as goal

@@ -41,18 +41,6 @@ weighed_2 w =
       going_is = w.going_with-going.ensures.going_with w.args.outputs.now ok.lawful used w.mark_past.ensures;
     }
 
--- what goes with the root is weighed
-weighed_3 : (w : After-marks-5-1) → Weighed (graph_of w.args.inputs w.args.gates.now w.args.outputs.now) w.args.root.0 (marks_in w.going_with-going.new.marks) w.going_with-going.result
-weighed_3 w =
-    let ok = w.requires.0 in
-    let used = w.requires.1 in
-    record {
-      lawful = ok.lawful;
-      used = used;
-      past = subst⁻¹ (MarksPast (graph_of w.args.inputs w.args.gates.now w.args.outputs.now) w.args.root.0) w.going_with-going.ensures.marks_unchanged w.mark_past.ensures;
-      going_is = w.going_with-going.ensures.going_with w.args.outputs.now ok.lawful used w.mark_past.ensures;
-    }
-
 -- the gain is the definition's
 gain_is : (n : After-marks-7-1) → n.gain.result ≡ positive (gain (graph_of n.args.inputs n.args.gates.now n.args.outputs.now) n.args.root.0 n.args.proposal)
 gain_is n =

@@ -18,7 +18,7 @@ use Rattle.replacement.specs.Rewire.{redirected, rewired_net, finished}
 use Rattle.replacement.proofs.Finished.{finished_sinks}
 use Rattle.replacer.specs.Finishing.{SmallNumbers, by_numbers, kept_gates, new_numbers}
 use Rattle.replacer.proofs.Kept.{numbers_small, numbers_length}
-use Rattle.replacer.proofs.Finishing.{numbers, gates_are, room_is, finish_refused, finish_stored}
+use Rattle.replacer.proofs.Finishing.{gates_are, room_is, finish_refused, finish_stored}
 use Rattle.replacer.proofs.store_finished.Goals as goal
 use Rattle.replacer.proofs.store_finished.Goals.{After-numbers-2-1, After-numbers-3-1, Then-no_room}
 

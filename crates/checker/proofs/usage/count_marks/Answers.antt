@@ -1,7 +1,7 @@
 -- `checker::usage::count_marks` meets its contract: the marks of the first k gates are counted, and there are at most k.
 -- Assumes nothing.
 use mathlib.Core.Path.{◌≡◌, refl, ap, ◌∙◌}
-use Prim.Native.Nat.{◌+◌, ◌-◌, ◌≤◌}
+use Prim.Native.Nat.{◌+◌, ◌≤◌}
 use native.Mathlib.Omega.{arith}
 use borrow.Author.Rules.{rules}
 use mir.Val.{bool_byte}

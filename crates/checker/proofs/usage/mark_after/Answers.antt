@@ -4,7 +4,6 @@ use mathlib.Core.Path.{refl, sym, ap, ◌∙◌}
 use Prim.Native.Nat.{◌-◌}
 use native.Mathlib.Omega.{arith}
 use borrow.Author.Rules.{rules}
-use lib.ListN.{length}
 use Rattle.graph.specs.Graph.{net_of}
 use Rattle.checker.specs.Marks.{marks_in, mark_after}
 use Rattle.checker.proofs.Marking.{marks_length, after_step, after_end}

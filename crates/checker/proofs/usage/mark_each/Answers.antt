@@ -1,10 +1,8 @@
 -- `checker::usage::mark_each` meets its contract: marking the literals from k on leads to where marking all of them does.
 -- Assumes nothing.
 use mathlib.Core.Path.{refl, sym, ◌∙◌}
-use Prim.Native.Nat.{◌-◌}
 use native.Mathlib.Omega.{arith}
 use borrow.Author.Rules.{rules}
-use lib.ListN.{length}
 use Rattle.checker.specs.Marks.{marks_in}
 use Rattle.checker.proofs.Marking.{marks_length, each_step, each_end}
 use Rattle.checker.proofs.usage.mark_each.Goals as goal

@@ -18,9 +18,6 @@ use Rattle.cutter.proofs.cover.is_covered.Goals.{After-shared_slice_known-3-1, A
 other : (f : After-shared_slice_known-4-1) → ¬ (f.args.v.0 ≡ f.args.next.leaf.0)
 other f = f.if-v-next.false
 
-other_2 : (f : After-var-arg-1) → ¬ (f.args.v.0 ≡ f.args.next.leaf.0)
-other_2 f = f.if-v-next.false
-
 above : (f : After-shared_slice_known-4-1) → free (net_of f.args.inputs f.args.gates.now) < f.args.v.0
 above f = omega arith
 
@@ -35,9 +32,6 @@ below f = fanins_below f.requires.0 (above f)
 
 below_2 : (f : After-shared_slice_known-3-1) → (var_of (first (net_of f.args.inputs f.args.gates.now) f.args.v.0) < f.args.v.0) × (var_of (second (net_of f.args.inputs f.args.gates.now) f.args.v.0) < f.args.v.0)
 below_2 f = fanins_below f.requires.0 (above_2 f)
-
-below_3 : (f : After-var-arg-1) → (var_of (first (net_of f.args.inputs f.args.gates.now) f.args.v.0) < f.args.v.0) × (var_of (second (net_of f.args.inputs f.args.gates.now) f.args.v.0) < f.args.v.0)
-below_3 f = fanins_below f.requires.0 (above_3 f)
 
 first_at : (a : After-shared_slice_known-4-1) → a.at-2.result ≡ var_of (first (net_of a.args.inputs a.args.gates.now) a.args.v.0)
 first_at a = a.at-2.ensures ∙ a.var.ensures ∙ ap var_of a.fanins_of-gate.ensures.first_value

@@ -1,7 +1,6 @@
 -- `cutter::cover::list_covered` meets its contract: the covered variables below n stand at the front of the list.
 -- Assumes nothing.
 use mathlib.Core.Path.{◌≡◌}
-use Prim.Native.Nat.{◌-◌}
 use native.Mathlib.Omega.{arith}
 use borrow.Author.Rules.{rules}
 use Rattle.cutter.proofs.Sweeping.{covered_in_few, listed_none, listed_length, listed_more}

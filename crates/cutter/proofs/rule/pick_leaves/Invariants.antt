@@ -2,7 +2,7 @@
 use mathlib.Core.Path.{◌≡◌}
 use mathlib.Core.List.{[]}
 use Prim.Native.Nat.{ℕ}
-use Rattle.graph.specs.Graph.{Net, net_of, IsGate, WellFormedNet}
+use Rattle.graph.specs.Graph.{net_of, IsGate, WellFormedNet}
 use Rattle.window.specs.Leaves.{leaf_list, leaves_of}
 use Rattle.window.specs.LeafRule.{with_fanins}
 use Rattle.window.proofs.Weight.{weight}

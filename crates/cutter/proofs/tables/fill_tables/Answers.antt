@@ -2,12 +2,12 @@
 -- Assumes nothing.
 use mathlib.Core.Path.{◌≡◌, refl, ap, ◌∙◌, subst, subst⁻¹}
 use mathlib.Core.List.{List}
-use Prim.Native.Nat.{ℕ, ◌-◌}
+use Prim.Native.Nat.{ℕ}
 use native.Mathlib.Omega.{arith}
 use lib.ListN.{length, length-set}
 use Rattle.graph.specs.Graph.{Net, net_of}
 use Rattle.window.specs.declared.leaf_set.Leaves.{Leaves}
-use Rattle.window.specs.Table.{words, words_up_to}
+use Rattle.window.specs.Table.{words_up_to}
 use Rattle.cutter.specs.declared.next_leaf.NextLeaf.{NextLeaf}
 use Rattle.cutter.proofs.Passed.{table_ahead_lem}
 use Rattle.cutter.proofs.Sweeping.{sweep_none, sweep_all, sweep_length, sweep_ahead, sweep_next, sweep_more}

@@ -4,7 +4,7 @@ use mathlib.Core.Bool.{Bool}
 use mathlib.Core.List.{List}
 use Prim.Native.Nat.{ℕ, ◌-◌, ◌≤◌}
 use lib.ListN.{length}
-use Rattle.graph.specs.Graph.{Net, net_of, last}
+use Rattle.graph.specs.Graph.{Net, net_of}
 use Rattle.graph.specs.Sweep.{bools}
 use Rattle.graph.specs.Evaluate.{assigned, assignment_of}
 use Rattle.graph.proofs.Swept.{Swept}

@@ -1,7 +1,7 @@
 -- `reader::section::read_inputs` meets its contract: the loop reads the lines needed, in order, up to the first that is not right.
 -- Assumes nothing.
 use mathlib.Core.Path.{◌≡◌, sym, ap}
-use Prim.Native.Nat.{suc, ◌*◌, ◌-◌}
+use Prim.Native.Nat.{suc, ◌*◌}
 use native.Mathlib.Omega.{arith}
 use borrow.Author.Rules.{rules}
 use lib.Dec.{eqb}

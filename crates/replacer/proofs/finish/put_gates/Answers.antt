@@ -2,9 +2,8 @@
 -- The measure is what is left of the gates.
 -- Assumes nothing.
 use mathlib.Core.Path.{◌≡◌, ◌∙◌}
-use Prim.Native.Nat.{suc, ◌+◌, ◌-◌, ◌<◌}
+use Prim.Native.Nat.{suc, ◌+◌, ◌<◌}
 use native.Mathlib.Omega.{arith}
-use lib.ListN.{length}
 use Rattle.graph.specs.Graph.{net_of, free, size}
 use Rattle.graph.proofs.Lent.{pieces_none, pieces_length, pieces_all, piece_room, piece_then, laid_front}
 use Rattle.checker.specs.Marks.{marks_in}

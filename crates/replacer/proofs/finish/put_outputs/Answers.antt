@@ -3,15 +3,14 @@
 -- Assumes nothing.
 use mathlib.Core.Path.{◌≡◌, refl, sym, ap, ap₂, ◌∙◌}
 use mathlib.Core.List.{List, map}
-use Prim.Native.Nat.{ℕ, ◌-◌}
+use Prim.Native.Nat.{ℕ}
 use native.Mathlib.Omega.{arith}
 use borrow.Author.Rules.{rules}
-use lib.ListN.{length, take, set, length-set, length-map}
+use lib.ListN.{length, set, length-set, length-map}
 use lib.Seq.{take_all}
 use Rattle.graph.specs.Lent.{written}
 use Rattle.graph.proofs.Members.{map_at}
 use Rattle.graph.proofs.Lent.{written_more}
-use Rattle.replacement.specs.Rewire.{redirected}
 use Rattle.replacer.specs.Finishing.{by_numbers}
 use Rattle.replacer.proofs.Kept.{redirected_below}
 use Rattle.replacer.proofs.finish.put_outputs.Invariants.{word}

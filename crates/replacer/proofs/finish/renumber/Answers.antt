@@ -3,7 +3,7 @@
 use mathlib.Core.Path.{◌≡◌, refl, sym, ap, ap₂, ◌∙◌}
 use mathlib.Core.Bool.{Bool}
 use mathlib.Core.List.{List, [], ◌∷◌}
-use Prim.Native.Nat.{ℕ, ◌+◌, ◌-◌, ◌<◌}
+use Prim.Native.Nat.{ℕ, ◌+◌, ◌<◌}
 use native.Mathlib.Omega.{arith}
 use mir.Val.{bool_byte}
 use lib.ListN.{length, set, length-set}
@@ -29,10 +29,6 @@ starts net ms (x ∷ xs) h = ap (λ (n : ℕ). n ∷ xs) (sym (number_low net ms
 -- the list keeps its length
 long : (l : After-stays) → length l.loop-n.numbers ≡ length l.args.numbers.now
 long l = l.loop-n.invariant.2 ∙ length-set l.args.numbers.now 0 0
-
--- the list keeps its length
-long_2 : (l : In-loop-n) → length l.loop-n.numbers ≡ length l.args.numbers.now
-long_2 l = l.loop-n.invariant.2 ∙ length-set l.args.numbers.now 0 0
 
 -- the list keeps its length
 long_3 : (l : After-loop-n) → length l.loop-n.numbers ≡ length l.args.numbers.now

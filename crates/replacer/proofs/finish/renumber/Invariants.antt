@@ -3,7 +3,7 @@ use mathlib.Core.Path.{◌≡◌}
 use Prim.Native.Nat.{◌-◌, ◌≤◌}
 use lib.ListN.{length}
 use Rattle.graph.specs.Lent.{written}
-use Rattle.graph.specs.Graph.{net_of, last}
+use Rattle.graph.specs.Graph.{net_of}
 use Rattle.graph.specs.Drop.{new_number}
 use Rattle.checker.specs.Marks.{marks_in}
 use Rattle.replacer.proofs.Kept.{numbers_to}

@@ -4,7 +4,7 @@
 use mathlib.Core.Path.{◌≡◌, refl, subst}
 use mathlib.Core.Bool.{Bool}
 use mathlib.Core.List.{List, [], ◌∷◌}
-use Prim.Native.Nat.{ℕ, suc, ◌+◌, ◌-◌, ◌≤◌, ◌<◌}
+use Prim.Native.Nat.{ℕ, suc, ◌+◌, ◌≤◌, ◌<◌}
 use native.Mathlib.Omega.{arith}
 use borrow.Author.Rules.{rules}
 use lib.ListN.{length, take}
@@ -37,14 +37,6 @@ begun_3 : (c : In-loop-done)
     → let e = c.mark_new-count in
     Stage (net_of c.args.inputs c.args.gates.now) (c.args.first.0 ∷ c.args.second.0 ∷ []) (marks_in c.args.marks.now) 0 (walked_to (marks_in e.new.marks) e.new.list e.result)
 begun_3 c =
-    stage_start (net_of c.args.inputs c.args.gates.now) c.args.first.0 c.args.second.0 (marks_in c.args.marks.now) c.requires.walkable.1 c.requires.first_bound.0 c.requires.first_bound.1
-    c.args.list.now (omega arith)
-    (two_held _ _ c.mark_new-with_first.ensures c.mark_new-count.ensures c.var.ensures c.var-2.ensures)
-
-begun_4 : (c : After-slice_known-6-1)
-    → let e = c.mark_new-count in
-    Stage (net_of c.args.inputs c.args.gates.now) (c.args.first.0 ∷ c.args.second.0 ∷ []) (marks_in c.args.marks.now) 0 (walked_to (marks_in e.new.marks) e.new.list e.result)
-begun_4 c =
     stage_start (net_of c.args.inputs c.args.gates.now) c.args.first.0 c.args.second.0 (marks_in c.args.marks.now) c.requires.walkable.1 c.requires.first_bound.0 c.requires.first_bound.1
     c.args.list.now (omega arith)
     (two_held _ _ c.mark_new-with_first.ensures c.mark_new-count.ensures c.var.ensures c.var-2.ensures)

@@ -2,7 +2,7 @@
 use mathlib.Core.Path.{◌≡◌}
 use mathlib.Core.Bool.{false}
 use Prim.Native.Nat.{◌-◌, ◌≤◌}
-use lib.ListN.{length, set, take}
+use lib.ListN.{length, take}
 use Rattle.checker.specs.Marks.{marks_in}
 use Rattle.weigher.specs.Held.{set_each}
 use Rattle.weigher.proofs.held.unmark.Given as goal

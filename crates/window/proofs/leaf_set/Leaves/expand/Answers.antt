@@ -7,7 +7,7 @@ use native.Mathlib.Omega.{arith}
 use lib.ListN.{length}
 use Rattle.graph.specs.Graph.{net_of}
 use Rattle.window.specs.Leaves.{leaf_limit, leaf_list}
-use Rattle.window.specs.LeafRule.{remove, with_fanins, expand}
+use Rattle.window.specs.LeafRule.{with_fanins, expand}
 use Rattle.window.specs.Growing.{grown_of}
 use Rattle.window.proofs.Growing.{count_of, list_of, removed_length}
 use Rattle.window.proofs.Along.{length_held, along}

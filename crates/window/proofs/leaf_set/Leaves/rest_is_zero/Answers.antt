@@ -1,13 +1,12 @@
 -- `window::Leaves::rest_is_zero` meets its contract: what the places from k on say is what all unused ones say.
 -- Assumes nothing.
 use mathlib.Core.Path.{◌≡◌, refl, sym, ◌∙◌}
-use Prim.Native.Nat.{◌-◌}
 use native.Mathlib.Omega.{arith}
 use borrow.Author.Rules.{rules}
 use lib.ListN.{length, get_or}
 use Rattle.window.specs.Leaves.{numbers}
 use Rattle.window.proofs.Along.{length_held, numbers_at, numbers_long}
-use Rattle.window.proofs.Places.{zeros, zeros_more, zeros_not, zeros_end}
+use Rattle.window.proofs.Places.{zeros_more, zeros_not, zeros_end}
 use Rattle.window.proofs.leaf_set.Leaves.rest_is_zero.Goals as goal
 
 pub loop-k-init : goal.loop-k-init
