@@ -73,7 +73,7 @@ laid_front xs l = let e : 0 + length xs ≡ length xs = omega arith in rw e
 
 -- ---- one call after another: each answers the place after what it laid
 
-abbrev Put : ℕ → List ℕ → List ℕ → ℕ → List ℕ → Type 0
+abbrev pub Put : ℕ → List ℕ → List ℕ → ℕ → List ℕ → Type 0
 Put at xs before next after = (next ≡ at + length xs) × (after ≡ laid at xs before)
 
 pub put_bytes : (at : ℕ) (xs l : List ℕ) → at + length xs ≤ length l → Put at xs l (at + length xs) (sets l at xs)

@@ -29,12 +29,6 @@ use Rattle.text.specs.States.{aag, input_numbers, output_numbers, numbers_of_gat
 use Rattle.text.specs.Refusals.{write_rank}
 use Rattle.text.proofs.States.{text_of_is}
 
--- ---- what a call that writes answers
-
--- these bytes are laid from a place on, and the answer is the place after them
-abbrev pub LaidAt : ℕ → List ℕ → List ℕ → ℕ → List ℕ → Type 0
-LaidAt at xs before next after = (next ≡ at + length xs) × (after ≡ laid at xs before)
-
 -- ---- a line is its numbers one after another
 
 -- number k of a line, and the byte after it

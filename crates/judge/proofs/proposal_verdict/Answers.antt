@@ -3,7 +3,7 @@
 use mathlib.Core.Path.{◌≡◌, sym, ap, ◌∙◌}
 use mathlib.Core.Bool.{true}
 use mathlib.Core.Option.{none}
-use Rattle.graph.specs.Graph.{graph_of}
+use Rattle.graph.specs.Graph.{net_of, graph_of}
 use Rattle.graph.specs.Refuse.{first_refusal, verdict_is}
 use Rattle.graph.proofs.Graph.{net_well_formed}
 use Rattle.window.specs.Calls.{window_refusals, Window}
@@ -14,49 +14,52 @@ use Rattle.judge.proofs.Verdicts.{by_window, bad_candidate, not_equal, proposal_
 use Rattle.judge.proofs.proposal_verdict.Goals as goal
 use Rattle.judge.proofs.proposal_verdict.Goals.{Else-not-is_allowed, In-Fine}
 
-fine : (c : In-Fine) → first_refusal (window_refusals (graph_of c.args.inputs c.args.gates.now c.args.outputs.now) c.args.root.0 c.args.leaves) ≡ none
+-- the window has no refusal
+fine : (c : In-Fine) → let graph = graph_of c.args.inputs c.args.gates.now c.args.outputs.now in
+    first_refusal (window_refusals graph c.args.root.0 c.args.leaves) ≡ none
 unfolding verdict_is
 fine c = sym c.window_verdict.ensures ∙ rw c.in-Fine.is
 
-known : (c : Else-not-is_allowed) → Window (graph_of c.args.inputs c.args.gates.now c.args.outputs.now) c.args.root.0 c.args.leaves
+known : (c : In-Fine) → Window (graph_of c.args.inputs c.args.gates.now c.args.outputs.now) c.args.root.0 c.args.leaves
 known c = window_known _ _ _ _ c.window_verdict.ensures c.in-Fine.is
 
-known_2 : (c : In-Fine) → Window (graph_of c.args.inputs c.args.gates.now c.args.outputs.now) c.args.root.0 c.args.leaves
-known_2 c = window_known _ _ _ _ c.window_verdict.ensures c.in-Fine.is
-
--- and past its kind's rule
-passed : (c : Else-not-is_allowed) → allowed (graph_of c.args.inputs c.args.gates.now c.args.outputs.now).net c.args.root.0 c.args.leaves c.args.proposal ≡ true
+-- and the proposal keeps its kind's rule
+passed : (c : Else-not-is_allowed) → allowed (net_of c.args.inputs c.args.gates.now) c.args.root.0 c.args.leaves c.args.proposal ≡ true
 passed c = sym c.is_allowed.ensures ∙ c.if-not-is_allowed.false
 
 pub is_allowed-requires : goal.is_allowed-requires
 is_allowed-requires c =
-    let k = known_2 c in
-    (net_well_formed (graph_of c.args.inputs c.args.gates.now c.args.outputs.now) k.graph, k.root_used.is_gate.within, k.leaves)
+    let window = known c in (net_well_formed _ window.graph, window.root_used.is_gate.within, window.leaves)
 
 pub returns-then-not-is_allowed : goal.returns-then-not-is_allowed
 unfolding verdict_is
 returns-then-not-is_allowed c =
-    sym (bad_candidate _ _ _ _ (fine (goal.at.returns-then-not-is_allowed c).In-Fine) (sym c.is_allowed.ensures ∙ c.if-not-is_allowed.true))
+    let at = goal.at.returns-then-not-is_allowed c in
+    sym (bad_candidate _ _ _ _ (fine at.In-Fine) (sym c.is_allowed.ensures ∙ c.if-not-is_allowed.true))
 
 pub is_equal-requires : goal.is_equal-requires
 is_equal-requires c =
     let graph = graph_of c.args.inputs c.args.gates.now c.args.outputs.now in
-    let k = known c in record { well_formed_net = (net_well_formed graph k.graph, k.root_used.is_gate.within, k.leaves); first_bound = literals_below graph _ _ _ k.root_used.is_gate (passed c) }
+    let window = known (goal.at.is_equal-requires c).In-Fine in
+    let gate = window.root_used.is_gate in
+    record {
+      well_formed_net = (net_well_formed _ window.graph, gate.within, window.leaves);
+      first_bound = literals_below graph _ _ _ gate (passed c);
+    }
 
 pub returns-then-not-is_equal : goal.returns-then-not-is_equal
 unfolding verdict_is equal_tables
 returns-then-not-is_equal c =
-    sym (not_equal _ _ _ _ (fine (goal.at.returns-then-not-is_equal c).In-Fine) (passed (goal.at.returns-then-not-is_equal c).Else-not-is_allowed)
-    (sym c.is_equal.ensures ∙ c.if-not-is_equal.true))
+    let at = goal.at.returns-then-not-is_equal c in
+    sym (not_equal _ _ _ _ (fine at.In-Fine) (passed at.Else-not-is_allowed) (sym c.is_equal.ensures ∙ c.if-not-is_equal.true))
 
 pub returns-in-Refused : goal.returns-in-Refused
 unfolding verdict_is
 returns-in-Refused c =
-    let first = sym c.window_verdict.ensures ∙ ap verdict_is c.in-Refused.is in
-    sym (by_window (graph_of c.args.inputs c.args.gates.now c.args.outputs.now) _ _ _ c.in-Refused.refusal first)
+    sym (by_window _ _ _ _ c.in-Refused.refusal (sym c.window_verdict.ensures ∙ ap verdict_is c.in-Refused.is))
 
 pub returns-else-not-is_equal : goal.returns-else-not-is_equal
 unfolding verdict_is equal_tables
 returns-else-not-is_equal c =
-    sym (proposal_fine _ _ _ _ (fine (goal.at.returns-else-not-is_equal c).In-Fine) (passed (goal.at.returns-else-not-is_equal c).Else-not-is_allowed)
-    (sym c.is_equal.ensures ∙ c.if-not-is_equal.false))
+    let at = goal.at.returns-else-not-is_equal c in
+    sym (proposal_fine _ _ _ _ (fine at.In-Fine) (passed at.Else-not-is_allowed) (sym c.is_equal.ensures ∙ c.if-not-is_equal.false))

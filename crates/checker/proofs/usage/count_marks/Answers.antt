@@ -1,7 +1,7 @@
 -- `checker::usage::count_marks` meets its contract: the marks of the first k gates are counted, and there are at most k.
 -- Assumes nothing.
-use mathlib.Core.Path.{◌≡◌, refl, ap, ◌∙◌}
-use Prim.Native.Nat.{◌+◌, ◌≤◌}
+use mathlib.Core.Path.{◌≡◌, refl}
+use Prim.Native.Nat.{◌+◌}
 use native.Mathlib.Omega.{arith}
 use borrow.Author.Rules.{rules}
 use mir.Val.{bool_byte}
@@ -14,11 +14,9 @@ use Rattle.checker.proofs.usage.count_marks.Goals as goal
 use Rattle.checker.proofs.usage.count_marks.Goals.{After-has_mark}
 
 -- one gate more is counted
-more : (c : After-has_mark)
-    → c.loop-k.found + bool_byte c.has_mark.result ≡ (count_marks (net_of c.args.inputs c.args.gates.now) (marks_in c.args.marks.now)) (c.loop-k.k + 1)
-more c =
-    let a = c.args in
-    rw (c.has_mark.ensures, c.loop-k.invariant.2) (count_more (net_of a.inputs a.gates.now) (marks_in a.marks.now) c.loop-k.k)
+more : (c : After-has_mark) → c.loop-k.found + bool_byte c.has_mark.result
+    ≡ count_marks (net_of c.args.inputs c.args.gates.now) (marks_in c.args.marks.now) (c.loop-k.k + 1)
+more c = rw (c.has_mark.ensures, c.loop-k.invariant.2) (count_more _ _ _)
 
 pub loop-k-init : goal.loop-k-init
 unfolding count_marks
@@ -26,11 +24,8 @@ loop-k-init c = (search rules, search rules, refl)
 
 pub overflow_add-found : goal.overflow_add-found
 overflow_add-found c =
-    let few : (count_marks (net_of c.args.inputs c.args.gates.now) (marks_in c.args.marks.now)) (c.loop-k.k + 1) ≤ c.loop-k.k + 1 = count_most _ _ _ in
+    let few = count_most (net_of c.args.inputs c.args.gates.now) (marks_in c.args.marks.now) (c.loop-k.k + 1) in
     omega (arith, more (goal.at.overflow_add-found c).After-has_mark)
 
 pub loop-k-preserved : goal.loop-k-preserved
 loop-k-preserved c = (search rules, search rules, more (goal.at.loop-k-preserved c).After-has_mark)
-
-pub returns : goal.returns
-returns c = c.loop-k.invariant.2 ∙ ap (count_marks _ _) (omega arith)

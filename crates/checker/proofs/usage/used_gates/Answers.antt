@@ -14,11 +14,15 @@ use Rattle.checker.proofs.usage.used_gates.Goals as goal
 pub mark_used-requires : goal.mark_used-requires
 mark_used-requires c =
     let long = fresh_long most_variables in
-    record { well_formed = (c.requires, omega (arith, long)); marks_value = fresh_marks most_variables ∙ ap (λ (k : ℕ). replicate k false) (sym long) }
+    record {
+      well_formed = (c.requires, omega (arith, long));
+      marks_value = fresh_marks most_variables ∙ ap (λ (k : ℕ). replicate k false) (sym long);
+    }
 
 pub count_marks-requires : goal.count_marks-requires
 count_marks-requires c =
-    (net_well_formed (graph_of c.args.inputs c.args.gates.now c.args.outputs.now) c.requires, omega (arith, marks_length c.mark_used.new.marks))
+    let graph = graph_of c.args.inputs c.args.gates.now c.args.outputs.now in
+    (net_well_formed graph c.requires, omega (arith, marks_length c.mark_used.new.marks))
 
 pub returns : goal.returns
 returns c =

@@ -2,11 +2,10 @@
 -- Assumes nothing.
 use mathlib.Core.Path.{◌≡◌, sym, ap, ◌∙◌, subst⁻¹}
 use mathlib.Core.List.{List}
-use Prim.Native.Nat.{ℕ, ◌<◌}
+use Prim.Native.Nat.{ℕ}
 use native.Mathlib.Omega.{arith}
 use borrow.Author.Rules.{rules}
 use lib.ListN.{length, get_or, take}
-use lib.Seq.{take_all}
 use Rattle.graph.specs.Lists.{◌∈◌}
 use Rattle.graph.specs.Graph.{net_of}
 use Rattle.graph.proofs.Members.{at_place}
@@ -16,13 +15,6 @@ use Rattle.cutter.specs.Picking.{better, best, none_yet}
 use Rattle.window.proofs.Along.{length_held, along, along_more, next_leaf, take_more}
 use Rattle.cutter.proofs.Picking.{best_none, best_more}
 use Rattle.cutter.proofs.rule.best_leaf.Goals as goal
-use Rattle.cutter.proofs.rule.best_leaf.Goals.{In-loop-k}
-
-more : (i : In-loop-k) → i.loop-k.k < length (leaf_list i.args.leaves)
-more i = let a = i.loop-k.invariant.0 in omega arith
-
-here : (i : In-loop-k) → (get_or i.args.leaves.places i.loop-k.k (record { 0 = 0 })).0 ≡ get_or (leaf_list i.args.leaves) i.loop-k.k 0
-here i = let a = i.loop-k.invariant.0 in next_leaf a (omega arith)
 
 pub loop-k-init : goal.loop-k-init
 loop-k-init c =
@@ -32,24 +24,19 @@ loop-k-init c =
 pub better-best-requires : goal.better-best-requires
 better-best-requires c =
     let leaves = leaf_list c.args.leaves in
-    (c.requires, subst⁻¹ (λ (v : ℕ). v ∈ leaves) (here (goal.at.better-best-requires c).In-loop-k) (at_place 0 leaves c.loop-k.k (more (goal.at.better-best-requires c).In-loop-k)))
+    let (a, _) = c.loop-k.invariant in
+    (c.requires, subst⁻¹ (λ (v : ℕ). v ∈ leaves) (next_leaf a (omega arith)) (at_place 0 leaves c.loop-k.k (omega arith)))
 
 pub loop-k-preserved : goal.loop-k-preserved
 loop-k-preserved c =
     let net = net_of c.args.inputs c.args.gates.now in
-    let xs = (leaf_list c.args.leaves) in
-    let k = c.loop-k.k in (
-      along_more c.loop-k.invariant.0 (omega arith),
-      c.better-best.ensures
-          ∙ ap (λ (v : ℕ). better net xs c.loop-k.best v) (here (goal.at.loop-k-preserved c).In-loop-k)
-          ∙ ap (λ (b : Choice). better net xs b (get_or xs k 0)) c.loop-k.invariant.1
-          ∙ sym (best_more net xs (take k xs) (get_or xs k 0) none_yet)
-          ∙ ap (λ (vs : List ℕ). best net xs vs none_yet) (take_more xs k (more (goal.at.loop-k-preserved c).In-loop-k)),
-    )
-
-pub returns : goal.returns
-returns c =
-    let a = c.loop-k.invariant.0 in
     let xs = leaf_list c.args.leaves in
-    c.loop-k.invariant.1
-    ∙ ap (λ (vs : List ℕ). best (net_of c.args.inputs c.args.gates.now) xs vs none_yet) (take_all c.loop-k.k xs (omega arith))
+    let k = c.loop-k.k in
+    let (a, e) = c.loop-k.invariant in (
+      along_more a (omega arith),
+      c.better-best.ensures
+          ∙ ap (λ (v : ℕ). better net xs c.loop-k.best v) (next_leaf a (omega arith))
+          ∙ ap (λ (b : Choice). better net xs b (get_or xs k 0)) e
+          ∙ sym (best_more net xs (take k xs) (get_or xs k 0) none_yet)
+          ∙ ap (λ (vs : List ℕ). best net xs vs none_yet) (take_more xs k (omega arith)),
+    )

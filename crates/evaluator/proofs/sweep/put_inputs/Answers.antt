@@ -15,7 +15,6 @@ use Rattle.graph.proofs.Swept.{written_over, written_next}
 use Rattle.evaluator.specs.Values.{input_values}
 use Rattle.evaluator.proofs.Inputs.{inputs_more}
 use Rattle.evaluator.proofs.sweep.put_inputs.Goals as goal
-use Rattle.evaluator.proofs.sweep.put_inputs.Goals.{After-loop-k, In-loop-k}
 
 inputs_length : (vs : List ℕ) → length (input_values vs) ≡ length vs + 1
 unfolding input_values
@@ -31,22 +30,11 @@ written_input vs lent k h room =
     ∙ written_next front (eqb (get_or vs k 0) 1) lent (omega (arith, place))
     ∙ rw (add-one k) (ap (λ (bs : List Bool). written bs lent) (inputs_more vs k h))
 
--- the list keeps its length
-long : (l : In-loop-k) → length l.loop-k.known ≡ length l.args.known.now
-long l = l.loop-k.invariant.1 ∙ length-set l.args.known.now 0 false
-
--- the list keeps its length
-long_2 : (l : After-loop-k) → length l.loop-k.known ≡ length l.args.known.now
-long_2 l = l.loop-k.invariant.1 ∙ length-set l.args.known.now 0 false
-
 pub loop-k-init : goal.loop-k-init
 unfolding written input_values
 loop-k-init c =
     let lent = c.args.known.now in
     (search rules, refl, written_next [] false lent (omega arith) ∙ sym (written_over (input_values []) lent false (omega arith)))
-
-pub bounds-known-k : goal.bounds-known-k
-bounds-known-k c = omega (arith, long (goal.at.bounds-known-k c).In-loop-k)
 
 pub loop-k-preserved : goal.loop-k-preserved
 loop-k-preserved c =
@@ -58,9 +46,6 @@ loop-k-preserved c =
       ap (λ (bs : List Bool). set bs (k + 1) (eqb (get_or vs k 0) 1)) c.loop-k.invariant.2
           ∙ written_input vs (set lent 0 false) k (omega arith) (omega (arith, length-set lent 0 false)),
     )
-
-pub shape_of-known : goal.shape_of-known
-shape_of-known c = long_2 (goal.at.shape_of-known c).After-loop-k
 
 pub returns : goal.returns
 returns c =

@@ -1,6 +1,6 @@
 -- `evaluator::sweep::sweep` meets its contract: after the inputs each turn sweeps one gate more.
 -- Assumes nothing.
-use mathlib.Core.Path.{◌≡◌, refl, sym, ap, ◌∙◌}
+use mathlib.Core.Path.{◌≡◌, sym, ap, ◌∙◌}
 use mathlib.Core.Bool.{Bool}
 use mathlib.Core.List.{List}
 use mathlib.Core.Option.{Option, get_or}
@@ -18,7 +18,6 @@ use Rattle.graph.proofs.Evaluate.{assigned_gate}
 use Rattle.evaluator.proofs.Inputs.{starts_with_inputs}
 use Rattle.evaluator.proofs.sweep.sweep.Invariants.{swept}
 use Rattle.evaluator.proofs.sweep.sweep.Goals as goal
-use Rattle.evaluator.proofs.sweep.sweep.Goals.{After-loop-n, In-loop-n}
 
 -- one gate more, as the code counts
 swept_next : (net : Net) (a : ℕ → Bool) (lent known : List Bool) (n : ℕ) (x : Bool) → WellFormedNet net → free net ≤ n → n < last net
@@ -29,38 +28,14 @@ swept_next net a lent known n x ok g h room e f =
     let top = rw (add-one n, e) at f ∙ sym (byOwn (assigned_gate net a (suc n) (omega arith))) in
     rw (add-one n, e) (swept_more bools (assigned net a) net lent ok n x h (omega arith) top)
 
--- the list keeps its length, and so has a place for each variable
-long : (l : In-loop-n) → length l.loop-n.known ≡ length l.args.known.now
-long l = l.loop-n.invariant.2 ∙ l.put_inputs.auto.known
-
--- the list keeps its length, and so has a place for each variable
-long_2 : (l : After-loop-n) → length l.loop-n.known ≡ length l.args.known.now
-long_2 l = l.loop-n.invariant.2 ∙ l.put_inputs.auto.known
-
-pub put_inputs-requires : goal.put_inputs-requires
-put_inputs-requires c = omega arith
-
-pub loop-n-init : goal.loop-n-init
-loop-n-init c = (search rules, search rules, refl, λ lent same e. e)
-
-pub gate_value-requires : goal.gate_value-requires
-gate_value-requires c =
-    (c.requires.0, record { above = omega (arith, c.loop-n.invariant); within = omega arith }, omega (arith, long (goal.at.gate_value-requires c).In-loop-n))
-
-pub bounds-known-v : goal.bounds-known-v
-bounds-known-v c = omega (arith, long (goal.at.bounds-known-v c).In-loop-n)
-
 pub loop-n-preserved : goal.loop-n-preserved
 loop-n-preserved c = (
   search rules,
   search rules,
   length-set c.loop-n.known _ _ ∙ c.loop-n.invariant.2,
   λ lent same e. swept_next _ _ lent c.loop-n.known c.loop-n.n c.gate_value.result c.requires.0 c.loop-n.invariant.0
-      (omega arith) (omega (arith, long (goal.at.loop-n-preserved c).In-loop-n, same, c.loop-n.invariant.2)) (c.loop-n.invariant.3 lent same e) c.gate_value.ensures,
+      (omega arith) (omega arith) (c.loop-n.invariant.3 lent same e) c.gate_value.ensures,
 )
-
-pub shape_of-known : goal.shape_of-known
-shape_of-known c = long_2 (goal.at.shape_of-known c).After-loop-n
 
 pub returns : goal.returns
 unfolding values_under

@@ -19,7 +19,8 @@ abbrev pub invariant-loop-n : goal.invariant-loop-n
 invariant-loop-n l = (l.inputs ≤ l.n)
     × (l.n ≤ l.last)
     × (length l.known ≡ length l.initial.known)
-    × ((lent : List Bool) → length lent ≡ length l.initial.known → l.initial.known ≡ swept (net_of l.inputs l.gates) (assignment_of l.assignment) lent l.inputs
+    × ((lent : List Bool) → length lent ≡ length l.initial.known
+    → l.initial.known ≡ swept (net_of l.inputs l.gates) (assignment_of l.assignment) lent l.inputs
     → l.known ≡ swept (net_of l.inputs l.gates) (assignment_of l.assignment) lent l.n)
 
 abbrev pub decreases-loop-n : goal.decreases-loop-n

@@ -57,7 +57,8 @@ returns-then-header-ne0 c = sym (latches _ _ (omega arith) (omega arith) (omega 
 
 pub returns-then-header-free : goal.returns-then-header-free
 unfolding verdict_is
-returns-then-header-free c = sym (bad_count _ _ (omega arith) (omega arith) (omega arith) (omega arith) (omega arith) (λ e. c.if-header-free.true (omega arith)))
+returns-then-header-free c =
+    sym (bad_count _ _ (omega arith) (omega arith) (omega arith) (omega arith) (omega arith) (λ e. c.if-header-free.true (omega arith)))
 
 pub returns : goal.returns
 unfolding verdict_is

@@ -2,7 +2,7 @@
 -- and stores their literals.
 -- Assumes nothing.
 use mathlib.Core.Path.{◌≡◌, refl, sym}
-use Prim.Native.Nat.{◌+◌, ◌*◌, ◌<◌}
+use Prim.Native.Nat.{◌<◌}
 use native.Mathlib.Numerals.{add-one}
 use native.Mathlib.Omega.{arith}
 use borrow.Author.Rules.{rules}
@@ -13,19 +13,6 @@ use Rattle.scanner.specs.Lines.{line_step}
 use Rattle.reader.specs.Sections.{section_words}
 use Rattle.reader.proofs.Sections.{none_so_far, line_refused, line_fine}
 use Rattle.reader.proofs.section.read_outputs.Goals as goal
-use Rattle.reader.proofs.section.read_outputs.Goals.{After-loop-k, After-numbers-1}
-
-most_is : (l : After-numbers-1) → l.plain-most.result.0 + 1 ≡ 2 * l.args.header.highest + 1
-most_is l = omega (arith, l.plain-most.ensures)
-
-most_is_2 : (l : After-loop-k) → l.plain-most.result.0 + 1 ≡ 2 * l.args.header.highest + 1
-most_is_2 l = omega (arith, l.plain-most.ensures)
-
-pub overflow_add-most : goal.overflow_add-most
-overflow_add-most c = omega (arith, c.plain-most.ensures)
-
-pub overflow_cast-count : goal.overflow_cast-count
-overflow_cast-count c = omega arith
 
 pub loop-k-init : goal.loop-k-init
 loop-k-init c = (search rules, refl, none_so_far)
@@ -34,15 +21,9 @@ pub returns-in-Refused : goal.returns-in-Refused
 unfolding section_words line_step output_needed
 returns-in-Refused c =
     sym
-    (rw (most_is (goal.at.returns-in-Refused c).After-numbers-1) at
+    (rw c.plain-most.ensures at
     (line_refused c.loop-k.invariant.2 _ _ c.line_of-line.ensures refl
     c.line_verdict.ensures c.in-Refused.is c.loop-k-test.true))
-
-pub overflow_add-k : goal.overflow_add-k
-overflow_add-k c = omega arith
-
-pub loop-k-smaller : goal.loop-k-smaller
-loop-k-smaller c = omega arith
 
 pub loop-k-preserved : goal.loop-k-preserved
 unfolding line_step
@@ -58,4 +39,4 @@ pub returns : goal.returns
 unfolding section_words output_needed
 returns c =
     let e : c.loop-k.k ≡ c.args.header.outputs = omega arith in
-    sym (rw (e, most_is_2 c) at c.loop-k.invariant.2.is)
+    sym (rw (e, c.plain-most.ensures) at c.loop-k.invariant.2.is)

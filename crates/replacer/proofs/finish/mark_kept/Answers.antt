@@ -11,20 +11,17 @@ use Rattle.checker.specs.Marks.{marks_in}
 use Rattle.weigher.specs.Held.{set_each}
 use Rattle.weigher.proofs.Steps.{set_each_length}
 use Rattle.replacer.specs.Finishing.{KeptPast}
-use Rattle.replacer.proofs.Finishing.{literals_within, literal_keeps, and_keeps}
+use Rattle.replacer.proofs.Finishing.{literal_keeps, and_keeps}
 use Rattle.replacer.proofs.finish.mark_kept.Goals as goal
 use Rattle.replacer.proofs.finish.mark_kept.Goals.{After-set_mark-arg-1}
 
 -- the root has a mark there
-root_marked : (h : After-set_mark-arg-1) → h.args.root.0 < length (set_each true (take h.mark_reached.result h.mark_reached.new.list) (marks_in h.args.marks.now))
-root_marked h =
-    let long = set_each_length true (take h.mark_reached.result h.mark_reached.new.list) (marks_in h.args.marks.now) in
-    let gate = h.requires.gate.0 in
-    omega (arith, long, h.requires.walkable)
-
-pub mark_reached-requires : goal.mark_reached-requires
-mark_reached-requires c =
-    record { walkable = c.requires.walkable; first_bound = literals_within (net_of c.args.inputs c.args.gates.now) c.args.root.0 c.args.proposal c.requires.gate.0 c.requires.gate.1 }
+root_marked : (c : After-set_mark-arg-1) → let reached = take c.mark_reached.result c.mark_reached.new.list in
+    c.args.root.0 < length (set_each true reached (marks_in c.args.marks.now))
+root_marked c =
+    let long = set_each_length true (take c.mark_reached.result c.mark_reached.new.list) (marks_in c.args.marks.now) in
+    let gate = c.requires.gate.0 in
+    omega (arith, long, c.requires.walkable)
 
 pub set_mark-requires : goal.set_mark-requires
 set_mark-requires c =
@@ -32,19 +29,23 @@ set_mark-requires c =
 
 pub returns-then-proposal-ne0 : goal.returns-then-proposal-ne0
 returns-then-proposal-ne0 c =
-    let net = net_of c.args.inputs c.args.gates.now in
-    let given = marks_in c.args.marks.now in
     let a = c.args in
+    let net = net_of a.inputs a.gates.now in
+    let given = marks_in a.marks.now in
+    let (gate, wires) = c.requires.gate in
+    let reached = c.mark_reached in
     subst⁻¹ (KeptPast net given a.root.0 a.proposal)
-    (c.set_mark.ensures ∙ ap (λ (ms : List Bool). set ms a.root.0 true) c.mark_reached.ensures.marks_after)
-    (and_keeps net c.requires.walkable.0 a.root.0 c.requires.gate.0 a.proposal c.requires.gate.1 given c.mark_reached.new.list c.mark_reached.result
-    c.mark_reached.ensures.holding c.if-proposal-ne0.true (root_marked (goal.at.returns-then-proposal-ne0 c).After-set_mark-arg-1))
+    (c.set_mark.ensures ∙ ap (λ (ms : List Bool). set ms a.root.0 true) reached.ensures.marks_after)
+    (and_keeps net c.requires.walkable.0 a.root.0 gate a.proposal wires given reached.new.list reached.result reached.ensures.holding
+    c.if-proposal-ne0.true (root_marked (goal.at.returns-then-proposal-ne0 c).After-set_mark-arg-1))
 
 pub returns-else-proposal-ne0 : goal.returns-else-proposal-ne0
 returns-else-proposal-ne0 c =
-    let net = net_of c.args.inputs c.args.gates.now in
-    let given = marks_in c.args.marks.now in
     let a = c.args in
-    subst⁻¹ (KeptPast net given a.root.0 a.proposal) c.mark_reached.ensures.marks_after
-    (literal_keeps net c.requires.walkable.0 a.root.0 c.requires.gate.0 a.proposal c.requires.gate.1 given c.mark_reached.new.list
-    c.mark_reached.result c.mark_reached.ensures.holding c.if-proposal-ne0.false)
+    let net = net_of a.inputs a.gates.now in
+    let given = marks_in a.marks.now in
+    let (gate, wires) = c.requires.gate in
+    let reached = c.mark_reached in
+    subst⁻¹ (KeptPast net given a.root.0 a.proposal) reached.ensures.marks_after
+    (literal_keeps net c.requires.walkable.0 a.root.0 gate a.proposal wires given reached.new.list reached.result reached.ensures.holding
+    c.if-proposal-ne0.false)

@@ -13,7 +13,7 @@ use Rattle.graph.specs.Graph.{Net, net_of, size, last}
 use Rattle.graph.specs.Use.{count_marks}
 use Rattle.graph.specs.Drop.{new_number}
 use Rattle.graph.proofs.Swept.{written_over}
-use Rattle.graph.proofs.Renumber.{count_most, number_low}
+use Rattle.graph.proofs.Renumber.{number_low}
 use Rattle.checker.specs.Marks.{marks_in}
 use Rattle.replacer.specs.Finishing.{new_numbers}
 use Rattle.replacer.proofs.Kept.{number_counts, number_next, number_small, numbers_to, numbers_more, all_numbers}
@@ -26,36 +26,23 @@ unfolding gather written
 starts net ms [] h = absurd (omega arith)
 starts net ms (x ∷ xs) h = ap (λ (n : ℕ). n ∷ xs) (sym (number_low net ms 0 (omega arith)))
 
--- the list keeps its length
-long : (l : After-stays) → length l.loop-n.numbers ≡ length l.args.numbers.now
-long l = l.loop-n.invariant.2 ∙ length-set l.args.numbers.now 0 0
-
--- the list keeps its length
-long_3 : (l : After-loop-n) → length l.loop-n.numbers ≡ length l.args.numbers.now
-long_3 l = l.loop-n.invariant.2 ∙ length-set l.args.numbers.now 0 0
-
 -- the next variable's number
-more : (c : After-stays)
-    → c.loop-n.number + bool_byte c.stays.result ≡ new_number (net_of c.args.inputs c.args.gates.now) (marks_in c.args.marks.now) (c.loop-n.n + 1)
+more : (c : After-stays) → let net = net_of c.args.inputs c.args.gates.now in
+    c.loop-n.number + bool_byte c.stays.result ≡ new_number net (marks_in c.args.marks.now) (c.loop-n.n + 1)
 more c =
-    ap₂ ◌+◌ c.loop-n.invariant.1 (ap bool_byte c.stays.ensures) ∙ number_next (net_of c.args.inputs c.args.gates.now) (marks_in c.args.marks.now) c.loop-n.n
+    let net = net_of c.args.inputs c.args.gates.now in
+    ap₂ ◌+◌ c.loop-n.invariant.1 (ap bool_byte c.stays.ensures) ∙ number_next net (marks_in c.args.marks.now) c.loop-n.n
 
 all_done : (c : After-loop-n) → c.loop-n.n ≡ last (net_of c.args.inputs c.args.gates.now)
 all_done c = omega arith
 
 -- the last number counts the inputs and all marks
-total : (c : After-loop-n)
-    → c.loop-n.number ≡ c.args.inputs + count_marks (net_of c.args.inputs c.args.gates.now) (marks_in c.args.marks.now) (size (net_of c.args.inputs c.args.gates.now))
+total : (c : After-loop-n) → let net = net_of c.args.inputs c.args.gates.now in
+    c.loop-n.number ≡ c.args.inputs + count_marks net (marks_in c.args.marks.now) (size net)
 total c =
     let net = net_of c.args.inputs c.args.gates.now in
     let ms = marks_in c.args.marks.now in
     c.loop-n.invariant.1 ∙ ap (new_number net ms) (all_done c) ∙ number_counts net ms (size net)
-
-pub overflow_add-last : goal.overflow_add-last
-overflow_add-last c = omega arith
-
-pub bounds-numbers-0 : goal.bounds-numbers-0
-bounds-numbers-0 c = omega arith
 
 pub loop-n-init : goal.loop-n-init
 loop-n-init c =
@@ -63,45 +50,26 @@ loop-n-init c =
     let ms = marks_in c.args.marks.now in
     (omega arith, sym (number_low net ms 0 (omega arith)), refl, starts net ms c.args.numbers.now (omega arith))
 
-pub overflow_add-v : goal.overflow_add-v
-overflow_add-v c = omega arith
-
-pub overflow_cast-v : goal.overflow_cast-v
-overflow_cast-v c = omega arith
-
-pub stays-requires : goal.stays-requires
-stays-requires c = omega arith
-
 pub overflow_add-number : goal.overflow_add-number
 overflow_add-number c =
-    omega (arith, more c, number_small (net_of c.args.inputs c.args.gates.now) (marks_in c.args.marks.now) (c.loop-n.n + 1) (omega arith), c.requires.0)
-
-pub bounds-numbers-v : goal.bounds-numbers-v
-bounds-numbers-v c = omega (arith, long c)
-
-pub loop-n-smaller : goal.loop-n-smaller
-loop-n-smaller c = omega arith
+    let net = net_of c.args.inputs c.args.gates.now in
+    let small = number_small net (marks_in c.args.marks.now) (c.loop-n.n + 1) (omega arith) in
+    omega (arith, more c, small, c.requires.0)
 
 pub loop-n-preserved : goal.loop-n-preserved
 loop-n-preserved c =
-    let n = c.loop-n.n in (
+    let n = c.loop-n.n in
+    let net = net_of c.args.inputs c.args.gates.now in
+    let ms = marks_in c.args.marks.now in (
       omega arith,
       more c,
       length-set c.loop-n.numbers _ _ ∙ c.loop-n.invariant.2,
       ap₂ (λ (xs : List ℕ) (x : ℕ). set xs (n + 1) x) c.loop-n.invariant.3 (more c)
-          ∙ numbers_more (net_of c.args.inputs c.args.gates.now) (marks_in c.args.marks.now) n (set c.args.numbers.now 0 0) (simp length-set (omega arith)),
+          ∙ numbers_more net ms n (set c.args.numbers.now 0 0) (simp length-set (omega arith)),
     )
-
-pub overflow_cast-result : goal.overflow_cast-result
-overflow_cast-result c =
-    let net = net_of c.args.inputs c.args.gates.now in
-    omega (arith, total c, count_most net (marks_in c.args.marks.now) (size net), c.requires.0)
 
 pub overflow_sub-result : goal.overflow_sub-result
 overflow_sub-result c = omega (arith, total c)
-
-pub shape_of-numbers : goal.shape_of-numbers
-shape_of-numbers c = long_3 c
 
 pub returns : goal.returns
 unfolding new_numbers

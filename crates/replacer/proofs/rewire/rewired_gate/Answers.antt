@@ -16,17 +16,22 @@ returns-then-v-root c =
     let a = c.args in
     let moved = redirected a.root.0 a.proposal in
     let both = over (other_gate (net_of a.inputs a.gates.now) a.root.0 a.proposal a.v.0 c.requires.1 c.if-v-root.true)
-    (c.redirected-first.ensures ∙ ap moved c.fanins_of-gate.ensures.first_value) (c.redirected-second.ensures ∙ ap moved c.fanins_of-gate.ensures.second_value)
-    c.larger_first.ensures.first_value c.larger_first.ensures.second_value in
+    (c.redirected-first.ensures ∙ ap moved c.fanins_of-gate.ensures.first_value)
+    (c.redirected-second.ensures ∙ ap moved c.fanins_of-gate.ensures.second_value)
+    c.larger_first.ensures.first_value
+    c.larger_first.ensures.second_value in
     record { first_value = both.0; second_value = both.1 }
 
 pub returns-then-proposal-eq0 : goal.returns-then-proposal-eq0
 returns-then-proposal-eq0 c =
     let a = c.args in
     let net = net_of a.inputs a.gates.now in
-    let both = over (literal_root net a.root.0 a.proposal a.v.0 c.requires.1 c.if-v-root.false c.if-proposal-eq0.true)
-    (c.fanins_of-gate.ensures.first_value ∙ ap (first net) c.if-v-root.false) (c.fanins_of-gate.ensures.second_value ∙ ap (second net) c.if-v-root.false)
-    c.larger_first-then-proposal-eq0.ensures.first_value c.larger_first-then-proposal-eq0.ensures.second_value in
+    let is_root = c.if-v-root.false in
+    let both = over (literal_root net a.root.0 a.proposal a.v.0 c.requires.1 is_root c.if-proposal-eq0.true)
+    (c.fanins_of-gate.ensures.first_value ∙ ap (first net) is_root)
+    (c.fanins_of-gate.ensures.second_value ∙ ap (second net) is_root)
+    c.larger_first-then-proposal-eq0.ensures.first_value
+    c.larger_first-then-proposal-eq0.ensures.second_value in
     record { first_value = both.0; second_value = both.1 }
 
 pub returns : goal.returns
@@ -34,5 +39,8 @@ returns c =
     let a = c.args in
     let kind = (and_kind a.root.0 a.proposal c.requires.2 c.if-proposal-eq0.false).0 in
     let both = over (and_root (net_of a.inputs a.gates.now) a.root.0 a.proposal a.v.0 c.requires.1 c.if-v-root.false kind)
-    refl refl c.larger_first-2.ensures.first_value c.larger_first-2.ensures.second_value in
+    refl
+    refl
+    c.larger_first-2.ensures.first_value
+    c.larger_first-2.ensures.second_value in
     record { first_value = both.0; second_value = both.1 }

@@ -1,4 +1,5 @@
--- `scanner::line::line_of` meets its contract: what is answered is right wherever the loop ends, and each turn leads from a state to a state.
+-- `scanner::line::line_of` meets its contract: what is answered is right wherever the loop ends,
+-- and each turn leads from a state to a state.
 -- Assumes nothing.
 use Rattle.std.proofs.Common.{◌≡◌, drop, [], ◌∷◌}
 use borrow.Author.Tests.{not-true, not-false}
@@ -27,7 +28,8 @@ loop-k-preserved c =
       | then-k-numbers w ↦ rw w.after-is (between t (drop s.next read) w.if-k-numbers.true w.space-after.ensures)
       | else-k-numbers w ↦ rw w.after-is (behind_last t (drop s.next read) w.if-k-numbers.false w.line_end-after.ensures)
     ] in
-    further t c.loop-k-test.true s c.number-number.ensures (not-false s.found c.if-not-number.false) b is (not-false b.found c.if-not-after.false)
+    further t c.loop-k-test.true s c.number-number.ensures (not-false s.found c.if-not-number.false)
+    b is (not-false b.found c.if-not-after.false)
 
 pub returns : goal.returns
 returns c =
@@ -35,8 +37,9 @@ returns c =
     let read = c.loop-k.reader.text.now in
     elim c.loop-k-test.branch [
       | else-loop-k-test w ↦ rw w.reader-is (all_right t w.loop-k-test.false)
-      | then-loop-k-test+then-not-number w ↦ rw w.reader-is
-          (without_number t w.loop-k-test.true w.number-number.result w.number-number.ensures (not-true w.number-number.result.found w.if-not-number.true))
+      | then-loop-k-test+then-not-number w ↦
+          let s = w.number-number.result in
+          rw w.reader-is (without_number t w.loop-k-test.true s w.number-number.ensures (not-true s.found w.if-not-number.true))
       | then-loop-k-test+else-not-number+then-not-after w ↦
           let s = w.number-number.result in
           let b = w.if-k-numbers.after in
@@ -45,5 +48,6 @@ returns c =
             | else-k-numbers v ↦ rw v.after-is (behind_last t (drop s.next read) v.if-k-numbers.false v.line_end-after.ensures)
           ] in
           rw w.reader-is
-          (without_separator t w.loop-k-test.true s w.number-number.ensures (not-false s.found w.if-not-number.false) b is (not-true b.found w.if-not-after.true))
+          (without_separator t w.loop-k-test.true s w.number-number.ensures (not-false s.found w.if-not-number.false)
+          b is (not-true b.found w.if-not-after.true))
     ]

@@ -1,6 +1,6 @@
 -- `weigher::held::unmark` meets its contract: the marks of the first k in the list are taken off.
 -- Assumes nothing.
-use mathlib.Core.Path.{◌≡◌, refl, ap, ◌∙◌}
+use mathlib.Core.Path.{refl, ap, ◌∙◌}
 use mathlib.Core.Bool.{Bool, false}
 use mathlib.Core.List.{List}
 use native.Mathlib.Omega.{arith}
@@ -14,7 +14,7 @@ use Rattle.weigher.proofs.held.unmark.Goals as goal
 
 pub loop-k-init : goal.loop-k-init
 unfolding set_each
-loop-k-init c = (search rules, refl, refl)
+loop-k-init c = (search rules, refl)
 
 pub clear_mark-requires : goal.clear_mark-requires
 clear_mark-requires c =
@@ -26,11 +26,5 @@ loop-k-preserved c =
     let list = c.args.list.now in
     let next = set_each_next false list c.loop-k.k (marks_in c.args.marks.now) (omega arith) in (
       search rules,
-      search rules,
-      c.clear_mark.ensures ∙ ap (λ (ns : List Bool). set ns (get_or list c.loop-k.k 0) false) c.loop-k.invariant.2 ∙ next,
+      c.clear_mark.ensures ∙ ap (λ (ns : List Bool). set ns (get_or list c.loop-k.k 0) false) c.loop-k.invariant.1 ∙ next,
     )
-
-pub returns : goal.returns
-returns c =
-    let e : c.loop-k.k ≡ c.args.count = omega arith in
-    rw e at c.loop-k.invariant.2

@@ -9,8 +9,8 @@ use native.Mathlib.Omega.{arith}
 use lib.ListN.{length, get_or, length-append}
 use Rattle.text.specs.Number.{decimal}
 use Rattle.text.specs.Line.{separator, line}
-use Rattle.graph.proofs.Lent.{Pieces, put_byte_then, pieces_none, pieces_length, pieces_all, piece_room, piece_then}
-use Rattle.writer.proofs.Writing.{LaidAt, number_at, line_numbers}
+use Rattle.graph.proofs.Lent.{Put, Pieces, put_byte_then, pieces_none, pieces_length, pieces_all, piece_room, piece_then}
+use Rattle.writer.proofs.Writing.{number_at, line_numbers}
 use Rattle.writer.proofs.put.put_line.Goals as goal
 
 -- there is room for the turn's number and the byte after it
@@ -51,6 +51,6 @@ shape_of-bytes c = pieces_length c.loop-k.invariant
 pub returns : goal.returns
 returns c =
     let ns = c.args.numbers.now in
-    let laid_all : LaidAt c.args.at (line ns) c.args.bytes.now c.loop-k.next c.loop-k.bytes
+    let laid_all : Put c.args.at (line ns) c.args.bytes.now c.loop-k.next c.loop-k.bytes
     = rw (line_numbers ns) (pieces_all c.loop-k.invariant c.loop-k-test.false) in
     record { value = laid_all.0; bytes_after = laid_all.1 }

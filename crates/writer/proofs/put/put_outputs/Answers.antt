@@ -2,8 +2,8 @@
 -- The measure is what is left of the outputs.
 -- Assumes nothing.
 use lib.ListN.{length}
-use Rattle.graph.proofs.Lent.{pieces_none, pieces_length, pieces_all, piece_room, piece_then}
-use Rattle.writer.proofs.Writing.{LaidAt, output_line, output_lines, output_part}
+use Rattle.graph.proofs.Lent.{Put, pieces_none, pieces_length, pieces_all, piece_room, piece_then}
+use Rattle.writer.proofs.Writing.{output_line, output_lines, output_part}
 use Rattle.writer.proofs.put.put_outputs.Goals as goal
 
 pub loop-k-init : goal.loop-k-init
@@ -25,6 +25,6 @@ shape_of-bytes c = pieces_length c.loop-k.invariant
 pub returns : goal.returns
 returns c =
     let os = c.args.outputs.now in
-    let laid_all : LaidAt c.args.at (output_part os) c.args.bytes.now c.loop-k.next c.loop-k.bytes
+    let laid_all : Put c.args.at (output_part os) c.args.bytes.now c.loop-k.next c.loop-k.bytes
     = rw (output_lines os) (pieces_all c.loop-k.invariant c.loop-k-test.false) in
     record { value = laid_all.0; bytes_after = laid_all.1 }

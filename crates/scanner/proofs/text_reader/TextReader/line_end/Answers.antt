@@ -1,4 +1,5 @@
--- `scanner::text_reader::TextReader::line_end` needs no answer. Its code is thin over `line_end_at`, so what `Thin.antt` shows is of it too.
+-- `scanner::text_reader::TextReader::line_end` needs no answer. Its code is thin over `line_end_at`,
+-- so what `Thin.antt` shows is of it too.
 -- Assumes nothing.
 use mathlib.Core.Path.{refl}
 use Rattle.text.specs.Line.{line_feed}
