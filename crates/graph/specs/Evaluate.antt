@@ -1,11 +1,9 @@
 -- Evaluating a graph under an assignment of its inputs.
 -- Assumes nothing.
-use Rattle.std.specs.Prelude.{ℕ, ◌-◌, ◌≤◌, ◌<◌, ◌≡◌, Bool, cond, not, ◌&&◌, List, [], ◌∷◌, map, leb, eqb, length, get_or}
+use Rattle.std.specs.Prelude.{ℕ, ◌-◌, ◌≤◌, ◌<◌, ◌≡◌, Bool, cond, not, ◌&&◌, List, [], ◌∷◌, Result, Ok, Err, map, leb, eqb, length, get_or}
 use Rattle.std.proofs.Math.Option.{Option, none, some}
 use Rattle.graph.specs.declared.refusal.Refusal.{Refusal}
 use Rattle.graph.specs.declared.refusal.Refusal.TheVariants.{BadGraph, BadAssignment, NoRoom}
-use Rattle.graph.specs.declared.evaluated.Evaluated.{Evaluated}
-use Rattle.graph.specs.declared.evaluated.Evaluated.TheVariants.{Outputs, Refused}
 use Rattle.graph.specs.Lists.{all}
 use Rattle.graph.specs.Lent.{short, written, Effect, ◌leaving◌}
 use Rattle.graph.specs.Refuse.{number_of, Row, ◌⇒◌, first_refusal, Outcome, accepted, refused}
@@ -68,14 +66,14 @@ evaluate_refusals g vs lent =
     ∷ short (length (sinks g)) lent ⇒ NoRoom
     ∷ []
 
-unfoldable pub evaluate_effect : Graph → List ℕ → List ℕ → Effect Evaluated (List ℕ)
+unfoldable pub evaluate_effect : Graph → List ℕ → List ℕ → Effect (Result ℕ Refusal) (List ℕ)
 unfolding evaluate_refusals first_refusal written outputs_under assignment_of
 evaluate_effect g vs lent =
     elim (first_refusal (evaluate_refusals g vs lent)) [
-      | some r ↦ Refused r leaving lent
-      | none ↦ Outputs (length (sinks g)) leaving written (map (λ b. cond b 1 0) (outputs_under g (assignment_of vs))) lent
+      | some r ↦ Err r leaving lent
+      | none ↦ Ok (length (sinks g)) leaving written (map (λ b. cond b 1 0) (outputs_under g (assignment_of vs))) lent
     ]
 
-unfoldable pub evaluated_outcome : Evaluated → Outcome
-evaluated_outcome (Outputs n) = accepted (n ∷ [])
-evaluated_outcome (Refused r) = refused r
+unfoldable pub evaluated_outcome : Result ℕ Refusal → Outcome
+evaluated_outcome (Ok n) = accepted (n ∷ [])
+evaluated_outcome (Err r) = refused r

@@ -1,6 +1,6 @@
 -- What comes back: the refusals by name and number, and which one is given.
 -- Assumes nothing.
-use Rattle.std.specs.Prelude.{ℕ, ◌<◌, ◌≡◌, Bool, cond, ◌↔◌, List, [], ◌∷◌}
+use Rattle.std.specs.Prelude.{ℕ, ◌<◌, ◌≡◌, Bool, cond, ◌↔◌, List, [], ◌∷◌, Result, Ok, Err}
 use Rattle.std.proofs.Math.Option.{Option, none, some}
 use Rattle.graph.specs.declared.refusal.Refusal.{Refusal}
 use Rattle.graph.specs.declared.refusal.Refusal.TheVariants.{
@@ -21,9 +21,8 @@ use Rattle.graph.specs.declared.refusal.Refusal.TheVariants.{
   OrderLost,
   NoRoom,
 }
-use Rattle.graph.specs.declared.verdict.Verdict.{Verdict}
 
--- document 01's numbers
+-- their numbers
 abbrev pub number_of : Refusal → ℕ
 number_of BadHeader = 1
 number_of TooLarge = 2
@@ -56,10 +55,10 @@ unfoldable pub first_refusal : List Row → Option Refusal
 first_refusal [] = none
 first_refusal (row ∷ rows) = cond row.holds (some row.refusal) (first_refusal rows)
 
--- what a verdict says: none, or the refusal that is given
-unfoldable pub verdict_is : Verdict → Option Refusal
-verdict_is (Verdict.Fine) = none
-verdict_is (Verdict.Refused r) = some r
+-- what an answer says of refusing: none, or the refusal that is given
+unfoldable pub verdict_is : {A : Type 0} → Result A Refusal → Option Refusal
+verdict_is (Ok x) = none
+verdict_is (Err r) = some r
 
 -- an answer in document 01's terms: 0 and the values, or a refusal's number and what comes with it
 pub record Outcome : Type 0 where
@@ -72,11 +71,6 @@ accepted xs = record { number = 0; values = xs }
 -- a refusal returns its number alone
 abbrev pub refused : Refusal → Outcome
 refused r = record { number = number_of r; values = [] }
-
--- the same by a verdict, where the values stand beside it
-unfoldable pub verdict_outcome : Verdict → List ℕ → Outcome
-verdict_outcome (Verdict.Fine) xs = accepted xs
-verdict_outcome (Verdict.Refused r) xs = refused r
 
 -- of the refusals that are given for something, the one of lowest rank; a call says what ranks them
 pub record Lowest (rank : Refusal → ℕ) (given : Refusal → Type 0) (r : Refusal) : Type 0 where

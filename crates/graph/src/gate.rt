@@ -1,11 +1,10 @@
-// The gates of a lent graph: here a word becomes a literal.
-ghost use Rattle.std.specs.Prelude.{◌≡◌, ◌≤◌, max, min};
-ghost use Rattle.graph.specs.Graph.{net_of, most_inputs, first, second, IsGate};
+// The two literals of a gate.
+ghost use Rattle.std.specs.Prelude.{◌≡◌, max, min};
 
-use crate::lit::{Lit, Var};
+use crate::lit::Lit;
 
-// The two literals of a gate, the larger first.
-#[derive(Clone, Copy)]
+// The larger first.
+#[derive(Clone, Copy, Debug, PartialEq, Eq)]
 pub struct Fanins {
     pub first: Lit,
     pub second: Lit,
@@ -17,28 +16,9 @@ impl Fanins {
         ensures first_value { result.first.0 ≡ max a.0 b.0 }
         ensures second_value { result.second.0 ≡ min a.0 b.0 }
     {
-        if a.0 < b.0 {
-            return Fanins {
-                first: b,
-                second: a,
-            };
-        }
         Fanins {
-            first: a,
-            second: b,
+            first: a.max(b),
+            second: a.min(b),
         }
-    }
-}
-
-#[tactic(auto, unfolding(crate::specs::Graph::first, crate::specs::Graph::second))]
-pub fn fanins_of(inputs: usize, gates: &[u32], v: Var) -> Fanins
-    requires { (inputs ≤ most_inputs) × IsGate (net_of inputs gates.now) v.0 }
-    ensures first_value { result.first.0 ≡ first (net_of inputs gates.now) v.0 }
-    ensures second_value { result.second.0 ≡ second (net_of inputs gates.now) v.0 }
-{
-    let at = 2 * (v.at() - (inputs + 1));
-    Fanins {
-        first: Lit(gates[at]),
-        second: Lit(gates[at + 1]),
     }
 }

@@ -1,16 +1,14 @@
-// What a graph is and means: literals and variables, the limits, and why a call refuses.
+// What a graph is and means: literals and variables, lent graphs, the limits, and why a call refuses.
 #![tactic(auto)]
 
-mod evaluated;
 mod gate;
+mod lent_graph;
 mod limits;
 mod lit;
 mod refusal;
-mod verdict;
 
-pub use evaluated::Evaluated;
-pub use gate::{Fanins, fanins_of};
+pub use gate::Fanins;
+pub use lent_graph::LentGraph;
 pub use limits::{MOST_GATES, MOST_INPUTS, MOST_OUTPUTS, MOST_VARIABLES};
 pub use lit::{Lit, Var};
 pub use refusal::Refusal;
-pub use verdict::Verdict;

@@ -3,11 +3,11 @@ ghost use Rattle.std.specs.Prelude.{◌≡◌, ◌*◌, ◌<◌, ◌^◌};
 ghost use Rattle.graph.specs.Literal.{var_of, is_odd, flip};
 
 // A reference to a variable, plain or complemented: 2v is variable v, 2v + 1 its complement.
-#[derive(Clone, Copy)]
+#[derive(Clone, Copy, Debug, PartialEq, Eq, PartialOrd, Ord)]
 pub struct Lit(pub u32);
 
 // A variable's number: 0 is the constant false, then come the inputs, then the gates.
-#[derive(Clone, Copy)]
+#[derive(Clone, Copy, Debug, PartialEq, Eq, PartialOrd, Ord)]
 pub struct Var(pub u32);
 
 impl Lit {
