@@ -8,7 +8,7 @@ use graph::{Lit, Refusal};
 use replacement::Proposal;
 
 // A record of the list, in plain words as lent memory holds them.
-#[derive(Clone, Copy)]
+#[derive(Clone, Copy, Debug, PartialEq, Eq)]
 pub struct Candidate {
     pub kind: u32,
     pub first: u32,
@@ -31,10 +31,9 @@ impl Candidate {
     }
 }
 
-// What listing answers: how many records were stored; how many there is no room for; or why it is refused.
-#[derive(Clone, Copy)]
-pub enum Listed {
-    Records(usize),
+// Why there is no list: there is no room for so many records, or it is refused.
+#[derive(Clone, Copy, Debug, PartialEq, Eq)]
+pub enum NotListed {
     NoRoom(usize),
     Refused(Refusal),
 }

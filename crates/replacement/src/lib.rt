@@ -3,4 +3,4 @@
 
 mod types;
 
-pub use types::{Applied, Proposal};
+pub use types::{Finished, Proposal};

@@ -1,12 +1,12 @@
-// A proposal, and what applying it answers.
+// A proposal, and the counts of what applying it finishes.
 ghost use Rattle.std.specs.Prelude.{◌≡◌, ◌<◌, ◌^◌};
 ghost use Rattle.replacement.specs.Rewire.{Wires, stand_in, redirected};
 ghost use Rattle.replacement.specs.Vanish.{new_gates};
 
-use graph::{Lit, Refusal, Var};
+use graph::{Lit, Var};
 
 // A replacement for a root. Kind 0: the literal `first`. Kind 1: the AND of `first` and `second`, complemented where `turned` is 1.
-#[derive(Clone, Copy)]
+#[derive(Clone, Copy, Debug, PartialEq, Eq)]
 pub struct Proposal {
     pub kind: u32,
     pub first: Lit,
@@ -41,16 +41,16 @@ impl Proposal {
         requires { Wires root.0 self × (root.0 < 2 ^ 30) }
         ensures { result.0 ≡ redirected root.0 self l.0 }
     {
-        if l.var().0 == root.0 {
+        if l.var() == root {
             return self.stand_in(root).flip(l);
         }
         l
     }
 }
 
-// What applying a proposal answers: the counts of the finished graph, or why it is refused.
-#[derive(Clone, Copy)]
-pub enum Applied {
-    Graph { gates: usize, outputs: usize },
-    Refused(Refusal),
+// The counts of the graph that applying a proposal finishes.
+#[derive(Clone, Copy, Debug, PartialEq, Eq)]
+pub struct Finished {
+    pub gates: usize,
+    pub outputs: usize,
 }

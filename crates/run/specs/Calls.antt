@@ -1,6 +1,6 @@
 -- The run as a call: the refusals in order, the answer, and its four lent lists afterwards.
 -- Assumes nothing.
-use Rattle.std.specs.Prelude.{ℕ, not, ◌||◌, List, [], ◌∷◌, length}
+use Rattle.std.specs.Prelude.{ℕ, not, ◌||◌, List, [], ◌∷◌, Result, Ok, Err, length}
 use Rattle.std.proofs.Math.Option.{none, some}
 use Rattle.graph.specs.declared.refusal.Refusal.{Refusal}
 use Rattle.graph.specs.declared.refusal.Refusal.TheVariants.{BadGraph, NoRoom}
@@ -8,7 +8,7 @@ use Rattle.graph.specs.Lists.{filled}
 use Rattle.graph.specs.Lent.{Buffers, no_room_for, RoomFor, stored_in, Effect, ◌leaving◌}
 use Rattle.graph.specs.Refuse.{number_of, Row, ◌⇒◌, first_refusal, Outcome, accepted, refused}
 use Rattle.graph.specs.Graph.{Graph, graph_of, size, well_formed, WellFormed}
-use Rattle.run.specs.declared.Ran.{Ran}
+use Rattle.run.specs.declared.Finished.{Finished}
 use Rattle.run.specs.Run.{run}
 
 -- the lists lent for the result, and those of the work area
@@ -43,16 +43,16 @@ abbrev pub nothing : Graph
 nothing = graph_of 0 [] []
 
 -- afterwards the result holds the finished graph, and the work area 0
-unfoldable pub run_effect : Graph → RunBuffers → Effect Ran RunBuffers
+unfoldable pub run_effect : Graph → RunBuffers → Effect (Result Finished Refusal) RunBuffers
 unfolding run_refusals first_refusal run filled_in
 run_effect g b =
     elim (first_refusal (run_refusals g b)) [
-      | some r ↦ Ran.Refused r leaving b
+      | some r ↦ Err r leaving b
       | none ↦ let e = run g in
-          Ran.Finished (size e.graph.net) e.made
+          Ok (record { gates = size e.graph.net; made = e.made })
           leaving record { result = filled_in g e.graph b.result; work = filled_in g nothing b.work }
     ]
 
-unfoldable pub ran_outcome : Ran → Outcome
-ran_outcome (Ran.Finished gates made) = accepted (gates ∷ made ∷ [])
-ran_outcome (Ran.Refused r) = refused r
+unfoldable pub ran_outcome : Result Finished Refusal → Outcome
+ran_outcome (Ok n) = accepted (n.gates ∷ n.made ∷ [])
+ran_outcome (Err r) = refused r

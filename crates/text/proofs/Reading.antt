@@ -10,6 +10,7 @@ use native.Mathlib.Omega.{arith}
 use borrow.Author.Tests.{le-ltb, eq-eqb}
 use lib.Dec.{ltb, eqb}
 use lib.ListN.{length, get_or}
+use Rattle.std.specs.Prelude.{Ok}
 use Rattle.graph.specs.declared.refusal.Refusal.{Refusal}
 use Rattle.graph.specs.declared.refusal.Refusal.TheVariants.{BadHeader, BadCount}
 use Rattle.graph.specs.Lists.{gather}
@@ -19,7 +20,6 @@ use Rattle.graph.specs.Graph.{Graph, Lawful, size, most_inputs, most_outputs, mo
 use Rattle.graph.proofs.Refuse.{none_silent}
 use Rattle.graph.proofs.Tests.{test_off, denial_off, or_iff, ltb_iff, eqb_iff}
 use Rattle.text.specs.declared.header.Header.{Header}
-use Rattle.text.specs.declared.ReadText.{ReadText}
 use Rattle.text.specs.Number.{Front, front}
 use Rattle.text.specs.Line.{line, lines}
 use Rattle.text.specs.States.{aag, counts, numbers_of, spelling}
@@ -43,7 +43,7 @@ use Rattle.text.specs.Reading.{
   reading,
 }
 use Rattle.text.specs.Refusals.{Headed, read_rank}
-use Rattle.text.specs.Calls.{with_room, read_effect}
+use Rattle.text.specs.Calls.{with_room, counts_of, read_effect}
 use Rattle.text.proofs.Cases.{refuses_not_yields, yields_injective}
 use Rattle.text.proofs.Line.{header_line_iff}
 use Rattle.graph.proofs.Singles.{singles_are}
@@ -254,6 +254,6 @@ reading_iff t g = (reading_stated t g, stated_reading t g)
 
 -- where there is room for the graph that is read, it is stored
 pub reads_graph : (t : List ℕ) (b : Buffers) (g : Graph) → reading t ≡ yields g → no_room_for g b ≡ false
-    → read_effect t b ≡ ReadText.Graph g.net.inputs (size g.net) (length g.outputs) leaving stored_in g b
+    → read_effect t b ≡ Ok (counts_of g) leaving stored_in g b
 unfolding read_effect with_room
 reads_graph t b g e room = rw (e, read_effect, with_room, room)

@@ -1,17 +1,15 @@
 -- Picking leaves and asking for a table as calls: the refusals in order, and the answers.
 -- Assumes nothing.
-use Rattle.std.specs.Prelude.{ℕ, not, List, [], ◌∷◌, ◌++◌}
+use Rattle.std.specs.Prelude.{ℕ, not, List, [], ◌∷◌, ◌++◌, Result, Ok, Err}
 use Rattle.std.proofs.Math.Option.{none, some}
 use Rattle.graph.specs.declared.refusal.Refusal.{Refusal}
 use Rattle.graph.specs.declared.refusal.Refusal.TheVariants.{BadGraph, BadRoot, BadLeaves, NotACut}
-use Rattle.graph.specs.Refuse.{number_of, Row, ◌⇒◌, first_refusal, Outcome, verdict_outcome}
+use Rattle.graph.specs.Refuse.{number_of, Row, ◌⇒◌, first_refusal, Outcome, accepted, refused}
 use Rattle.graph.specs.Graph.{Graph, well_formed, WellFormed}
 use Rattle.graph.specs.Use.{in_use, InUse}
 use Rattle.window.specs.declared.leaf_set.Leaves.{Leaves}
-use Rattle.graph.specs.declared.verdict.Verdict.{Verdict}
-use Rattle.window.specs.declared.answers.Picked.{Picked}
-use Rattle.window.specs.declared.answers.RootTable.{RootTable}
-use Rattle.window.specs.Leaves.{numbers, leaves_of, well_set, WellSet}
+use Rattle.window.specs.declared.truth.Table.{Table}
+use Rattle.window.specs.Leaves.{numbers, well_set, WellSet}
 use Rattle.window.specs.Local.{covered, Covered}
 use Rattle.window.specs.Table.{table}
 use Rattle.window.specs.LeafRule.{picked}
@@ -32,17 +30,18 @@ pub data RootGiven (g : Graph) (root : ℕ) : Refusal → Type 0 where
   bad_graph : ¬ WellFormed g → RootGiven g root BadGraph
   bad_root : ¬ InUse g root → RootGiven g root BadRoot
 
-unfoldable pub pick_answer : Graph → ℕ → Picked
-unfolding root_refusals first_refusal picked leaves_of
+unfoldable pub pick_answer : Graph → ℕ → Result Leaves Refusal
+unfolding root_refusals first_refusal picked
 pick_answer g root =
     elim (first_refusal (root_refusals g root)) [
-      | some r ↦ record { verdict = Verdict.Refused r; leaves = leaves_of [] }
-      | none ↦ record { verdict = Verdict.Fine; leaves = picked g.net root }
+      | some r ↦ Err r
+      | none ↦ Ok (picked g.net root)
     ]
 
-unfoldable pub pick_outcome : Picked → Outcome
-unfolding verdict_outcome numbers
-pick_outcome p = verdict_outcome p.verdict (p.leaves.count ∷ numbers p.leaves.places)
+unfoldable pub pick_outcome : Result Leaves Refusal → Outcome
+unfolding numbers
+pick_outcome (Ok w) = accepted (w.count ∷ numbers w.places)
+pick_outcome (Err r) = refused r
 
 -- ---- the table of a root over its leaves
 
@@ -68,14 +67,14 @@ pub data WindowGiven (g : Graph) (root : ℕ) (w : Leaves) : Refusal → Type 0 
   bad_leaves : ¬ WellSet root w → WindowGiven g root w BadLeaves
   not_a_cut : ¬ Covered g.net w root → WindowGiven g root w NotACut
 
-unfoldable pub table_answer : Graph → ℕ → Leaves → RootTable
+unfoldable pub table_answer : Graph → ℕ → Leaves → Result Table Refusal
 unfolding window_refusals first_refusal table
 table_answer g root w =
     elim (first_refusal (window_refusals g root w)) [
-      | some r ↦ record { verdict = Verdict.Refused r; table = record { 0 = 0 } }
-      | none ↦ record { verdict = Verdict.Fine; table = record { 0 = table g.net w root } }
+      | some r ↦ Err r
+      | none ↦ Ok (record { 0 = table g.net w root })
     ]
 
-unfoldable pub table_outcome : RootTable → Outcome
-unfolding verdict_outcome
-table_outcome t = verdict_outcome t.verdict (t.table.0 ∷ [])
+unfoldable pub table_outcome : Result Table Refusal → Outcome
+table_outcome (Ok t) = accepted (t.0 ∷ [])
+table_outcome (Err r) = refused r
