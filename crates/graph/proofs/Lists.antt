@@ -12,6 +12,7 @@ use mir.Val.{bool_byte}
 use lib.Dec.{leb, eqb}
 use lib.ListN.{length, get_or, take, replicate}
 use lib.Seq.{take-append_seam, get_or-append-add}
+use Rattle.std.specs.List.{list_all}
 use Rattle.graph.specs.Lists.{filled, every, all_below, all, keep}
 
 pub at_most_or_above : (a b : ℕ) → (a ≤ b) ⊎ (b < a)
@@ -167,3 +168,9 @@ module _ (n : ℕ) (xs : List ℕ) where
   filled_past j d h =
       let e : j ≡ length xs + (j - length xs) = omega arith in
       ap (λ (i : ℕ). get_or (xs ++ replicate (n - length xs) 0) i d) e ∙ get_or-append-add xs (replicate (n - length xs) 0) (j - length xs) d
+
+-- std's word for the same
+pub all_by_std : {A : Type 0} (f : A → Bool) (xs : List A) → all f xs ≡ list_all f xs
+unfolding all
+all_by_std f [] = refl
+all_by_std f (x ∷ xs) = ap (λ b. f x && b) (all_by_std f xs)
