@@ -10,7 +10,7 @@ use native.Mathlib.Omega.{arith}
 use lib.ListN.{length, get_or, take, length-map}
 use Rattle.graph.specs.declared.refusal.Refusal.{Refusal}
 use Rattle.graph.specs.declared.refusal.Refusal.TheVariants.{BadGraph, BadRoot, NoRoom}
-use Rattle.graph.specs.Refuse.{first_refusal, verdict_outcome}
+use Rattle.graph.specs.Refuse.{first_refusal}
 use Rattle.graph.specs.Lent.{short, Buffers, no_room_for, stored_in}
 use Rattle.graph.specs.Graph.{Graph, sinks, WellFormed}
 use Rattle.graph.specs.Evaluate.{outputs_under, assignment_of, evaluate_refusals, evaluate_effect, evaluated_outcome}
@@ -116,7 +116,7 @@ module _ (g : Graph) (vs lent : List ℕ) (accepted : (evaluated_outcome (evalua
 
 module _ (g : Graph) (root : ℕ) (accepted : (pick_outcome (pick_answer g root)).number ≡ 0) where
   pick_none : first_refusal (root_refusals g root) ≡ none
-  unfolding pick_answer pick_outcome verdict_outcome
+  unfolding pick_answer pick_outcome
   pick_none = none_shown (first_refusal (root_refusals g root)) _ (λ q e. rw (e, pick_answer)) accepted
 
   pick_none_given : (q : Refusal) → ¬ RootGiven g root q
@@ -133,17 +133,17 @@ module _ (g : Graph) (root : ℕ) (accepted : (pick_outcome (pick_answer g root)
 
   pub pick_answers_leaves : PickedAs g root (pick_answer g root)
   unfolding pick_answer
-  pick_answers_leaves = rw (pick_none, pick_answer) (record { accepted = refl; by_the_rule = refl; window = picked_window })
+  pick_answers_leaves = rw (pick_none, pick_answer) (record { leaves = _; accepted = refl; by_the_rule = refl; window = picked_window })
 
 module _ (g : Graph) (root : ℕ) (w : Leaves) (accepted : (table_outcome (table_answer g root w)).number ≡ 0) where
   table_none : first_refusal (window_refusals g root w) ≡ none
-  unfolding table_answer table_outcome verdict_outcome
+  unfolding table_answer table_outcome
   table_none = none_shown (first_refusal (window_refusals g root w)) _ (λ q e. rw (e, table_answer)) accepted
 
   pub table_answers_table : TableAs g root w (table_answer g root w)
   unfolding table_answer
   table_answers_table =
-      rw (table_none, table_answer) (record { accepted = refl; is_the_table = refl; bits = table_bit g.net w root })
+      rw (table_none, table_answer) (record { told = _; accepted = refl; is_the_table = refl; bits = table_bit g.net w root })
 
 -- ---- listing
 

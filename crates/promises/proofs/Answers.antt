@@ -69,11 +69,11 @@ table_settled = table_answers
 
 -- and a refusal tells nothing but its number
 pub pick_refused_has_no_leaves : (g : Graph) (root : ℕ) (r : Refusal) → (pick_outcome (pick_answer g root)).number ≡ number_of r
-    → (pick_answer g root).leaves ≡ leaves_of []
+    → pick_answer g root ≡ Err r
 pick_refused_has_no_leaves = pick_refused_empty
 
 pub table_refused_has_no_bits : (g : Graph) (root : ℕ) (w : Leaves) (r : Refusal)
-    → (table_outcome (table_answer g root w)).number ≡ number_of r → (table_answer g root w).table ≡ record { 0 = 0 }
+    → (table_outcome (table_answer g root w)).number ≡ number_of r → table_answer g root w ≡ Err r
 table_refused_has_no_bits = table_refused_zero
 
 -- ---- two refusals by name

@@ -22,7 +22,7 @@ use Rattle.replacement.specs.Proposal.{literal}
 use Rattle.replacement.specs.Rewire.{finished}
 use Rattle.replacement.specs.Calls.{GoodProposal, apply_effect}
 use Rattle.listing.specs.declared.Candidate.{Candidate}
-use Rattle.listing.specs.declared.Listed.{Listed}
+use Rattle.listing.specs.declared.NotListed.{NotListed}
 use Rattle.listing.specs.Listing.{listed, GoodReplacement, IsTheList}
 use Rattle.listing.specs.Calls.{list_effect}
 use Rattle.listing.proofs.Listing.{listed_is_every_good, the_list}
@@ -99,16 +99,16 @@ one_list_of_e1 xs all = the_list xs (by_variable3 ∷ by_both_inputs ∷ []) all
 
 -- two places are enough, and one is too few
 pub e1_is_listed : (records : List Candidate) → length records ≡ 2
-    → (list_effect e1 4 (picked e1.net 4) records).answer ≡ Listed.Records 2
+    → (list_effect e1 4 (picked e1.net 4) records).answer ≡ Ok 2
 e1_is_listed records room =
     let (xs, all, left, told) = window_has_the_list e1 4 (picked e1.net 4) records root_window in
-    let two = ap length (one_list_of_e1 xs all) in (left (omega arith)).count_told ∙ ap (λ n. Listed.Records n) two
+    let two = ap length (one_list_of_e1 xs all) in (left (omega arith)).count_told ∙ ap (λ (n : ℕ). Ok n) two
 
 pub e1_is_not_listed : (records : List Candidate) → length records ≡ 1
-    → (list_effect e1 4 (picked e1.net 4) records).answer ≡ Listed.NoRoom 2
+    → (list_effect e1 4 (picked e1.net 4) records).answer ≡ Err (NotListed.NoRoom 2)
 e1_is_not_listed records room =
     let (xs, all, left, told) = window_has_the_list e1 4 (picked e1.net 4) records root_window in
-    let two = ap length (one_list_of_e1 xs all) in (told (omega arith)).count_told ∙ ap (λ n. Listed.NoRoom n) two
+    let two = ap length (one_list_of_e1 xs all) in (told (omega arith)).count_told ∙ ap (λ (n : ℕ). Err (NotListed.NoRoom n)) two
 
 -- ---- applying
 

@@ -1,34 +1,30 @@
 -- What a customer is promised: of every call, of a graph that took another's place, and of calls in a row.
 -- Assumes nothing.
-use Rattle.std.specs.Prelude.{ℕ, ◌*◌, ◌≤◌, ◌<◌, ◌≡◌, Bool, cond, List, map, length, take, drop, replicate}
+use Rattle.std.specs.Prelude.{ℕ, ◌*◌, ◌≤◌, ◌<◌, ◌≡◌, Bool, cond, List, Result, Ok, Err, map, length, take, drop, replicate}
 use Rattle.graph.specs.declared.refusal.Refusal.{Refusal}
 use Rattle.graph.specs.Refuse.{number_of, Answers}
 use Rattle.graph.specs.Lists.{filled}
 use Rattle.graph.specs.Lent.{Buffers, RoomFor, Effect, ◌leaving◌}
 use Rattle.graph.specs.Literal.{var_of}
 use Rattle.graph.specs.Graph.{Graph, graph_of, size, first, second, IsGate, WellFormed}
-use Rattle.graph.specs.declared.evaluated.Evaluated.{Evaluated}
 use Rattle.graph.specs.Evaluate.{outputs_under, assignment_of, Assignment}
 use Rattle.graph.specs.Use.{InUse, used_gates}
-use Rattle.text.specs.declared.ReadText.{ReadText}
-use Rattle.text.specs.declared.WrittenText.{WrittenText}
+use Rattle.text.specs.declared.counts.Counts.{Counts}
 use Rattle.text.specs.States.{text_of}
-use Rattle.text.specs.Calls.{read_effect}
-use Rattle.graph.specs.declared.verdict.Verdict.{Verdict}
+use Rattle.text.specs.Calls.{counts_of, read_effect}
 use Rattle.window.specs.declared.leaf_set.Leaves.{Leaves}
-use Rattle.window.specs.declared.answers.Picked.{Picked}
-use Rattle.window.specs.declared.answers.RootTable.{RootTable}
+use Rattle.window.specs.declared.truth.Table.{Table}
 use Rattle.window.specs.Local.{local_at}
 use Rattle.window.specs.Table.{bit, patterns, table}
 use Rattle.window.specs.LeafRule.{picked}
 use Rattle.window.specs.Calls.{Window}
 use Rattle.replacement.specs.declared.types.Proposal.{Proposal}
-use Rattle.replacement.specs.declared.types.Applied.{Applied}
+use Rattle.replacement.specs.declared.types.Finished.{Finished}
 use Rattle.replacement.specs.Rewire.{finished}
 use Rattle.replacement.specs.Calls.{GoodProposal}
 use Rattle.listing.specs.declared.Candidate.{Candidate}
-use Rattle.listing.specs.declared.Listed.{Listed}
-use Rattle.run.specs.declared.Ran.{Ran}
+use Rattle.listing.specs.declared.NotListed.{NotListed}
+use Rattle.run.specs.declared.Finished as ran
 use Rattle.run.specs.Run.{NoneAt}
 use Rattle.run.specs.Calls.{RunBuffers}
 
@@ -77,52 +73,54 @@ pub record RunHolds (g h : Graph) (before after : RunBuffers) : Type 0 where
 -- ---- what an accepted call answers and leaves: e is its effect
 
 -- a text was read as g
-pub record ReadAs (g : Graph) (b : Buffers) (e : Effect ReadText Buffers) : Type 0 where
-  pub counts_told : e.answer ≡ ReadText.Graph g.net.inputs (size g.net) (length g.outputs)
+pub record ReadAs (g : Graph) (b : Buffers) (e : Effect (Result Counts Refusal) Buffers) : Type 0 where
+  pub counts_told : e.answer ≡ Ok (counts_of g)
   pub holds : Holds g b e.lent
 
 -- g was written
-pub record WrittenAs (g : Graph) (lent : List ℕ) (e : Effect WrittenText (List ℕ)) : Type 0 where
-  pub count_told : e.answer ≡ WrittenText.Bytes (length (text_of g))
+pub record WrittenAs (g : Graph) (lent : List ℕ) (e : Effect (Result ℕ Refusal) (List ℕ)) : Type 0 where
+  pub count_told : e.answer ≡ Ok (length (text_of g))
   pub stored : Stored (text_of g) lent e.lent
 
 -- g was evaluated under these values, one an input: 1 for true and 0 for false
-pub record EvaluatedAs (g : Graph) (vs lent : List ℕ) (e : Effect Evaluated (List ℕ)) : Type 0 where
-  pub count_told : e.answer ≡ Evaluated.Outputs (length g.outputs)
+pub record EvaluatedAs (g : Graph) (vs lent : List ℕ) (e : Effect (Result ℕ Refusal) (List ℕ)) : Type 0 where
+  pub count_told : e.answer ≡ Ok (length g.outputs)
   pub stored : Stored (map (λ b. cond b 1 0) (outputs_under g (assignment_of vs))) lent e.lent
 
 -- leaves were picked for a root: they are the rule's, and make a window, well set down below the root and cutting it
-pub record PickedAs (g : Graph) (root : ℕ) (p : Picked) : Type 0 where
-  pub accepted : p.verdict ≡ Verdict.Fine
-  pub by_the_rule : p.leaves ≡ picked g.net root
-  pub window : Window g root p.leaves
+pub record PickedAs (g : Graph) (root : ℕ) (p : Result Leaves Refusal) : Type 0 where
+  pub leaves : Leaves
+  pub accepted : p ≡ Ok leaves
+  pub by_the_rule : leaves ≡ picked g.net root
+  pub window : Window g root leaves
 
 -- the root's table over these leaves was told: bit i is the root's local function at pattern i
-pub record TableAs (g : Graph) (root : ℕ) (w : Leaves) (t : RootTable) : Type 0 where
-  pub accepted : t.verdict ≡ Verdict.Fine
-  pub is_the_table : t.table.0 ≡ table g.net w root
-  pub bits : (i : ℕ) → i < patterns → bit t.table.0 i ≡ local_at g.net w (bit i) root
+pub record TableAs (g : Graph) (root : ℕ) (w : Leaves) (t : Result Table Refusal) : Type 0 where
+  pub told : Table
+  pub accepted : t ≡ Ok told
+  pub is_the_table : told.0 ≡ table g.net w root
+  pub bits : (i : ℕ) → i < patterns → bit told.0 i ≡ local_at g.net w (bit i) root
 
 -- these records were listed; or there was no room for them, and their count was told
-pub record ListedAs (xs lent : List Candidate) (e : Effect Listed (List Candidate)) : Type 0 where
-  pub count_told : e.answer ≡ Listed.Records (length xs)
+pub record ListedAs (xs lent : List Candidate) (e : Effect (Result ℕ NotListed) (List Candidate)) : Type 0 where
+  pub count_told : e.answer ≡ Ok (length xs)
   pub stored : Stored xs lent e.lent
 
-pub record NoRoomToList (xs lent : List Candidate) (e : Effect Listed (List Candidate)) : Type 0 where
-  pub count_told : e.answer ≡ Listed.NoRoom (length xs)
+pub record NoRoomToList (xs lent : List Candidate) (e : Effect (Result ℕ NotListed) (List Candidate)) : Type 0 where
+  pub count_told : e.answer ≡ Err (NotListed.NoRoom (length xs))
   pub unchanged : e.lent ≡ lent
 
 -- a replacement made h of g
-pub record AppliedAs (g h : Graph) (b : Buffers) (e : Effect Applied Buffers) : Type 0 where
-  pub counts_told : e.answer ≡ Applied.Graph (size h.net) (length h.outputs)
+pub record AppliedAs (g h : Graph) (b : Buffers) (e : Effect (Result Finished Refusal) Buffers) : Type 0 where
+  pub counts_told : e.answer ≡ Ok (record { gates = size h.net; outputs = length h.outputs })
   pub holds : Holds h b e.lent
   pub keeps : Keeps g h
   -- strictly fewer gates are in use
   pub fewer : used_gates h < used_gates g
 
 -- a run came from g to h by so many replacements
-pub record RanAs (g h : Graph) (made : ℕ) (b : RunBuffers) (e : Effect Ran RunBuffers) : Type 0 where
-  pub counts_told : e.answer ≡ Ran.Finished (size h.net) made
+pub record RanAs (g h : Graph) (made : ℕ) (b : RunBuffers) (e : Effect (Result ran.Finished Refusal) RunBuffers) : Type 0 where
+  pub counts_told : e.answer ≡ Ok (record { gates = size h.net; made = made })
   pub holds : RunHolds g h b e.lent
   pub keeps : Keeps g h
   pub none_left : NoneLeft h
@@ -130,30 +128,30 @@ pub record RanAs (g h : Graph) (made : ℕ) (b : RunBuffers) (e : Effect Ran Run
 -- ---- calls alone and in a row
 
 -- what was written is read into lent lists; where writing was refused, that is the answer
-unfoldable pub read_back : Effect WrittenText (List ℕ) → Buffers → Effect ReadText Buffers
+unfoldable pub read_back : Effect (Result ℕ Refusal) (List ℕ) → Buffers → Effect (Result Counts Refusal) Buffers
 unfolding read_effect
 read_back w b =
-    elim w.answer [ WrittenText.Bytes n ↦ read_effect (take n w.lent) b | WrittenText.Refused r ↦ ReadText.Refused r leaving b ]
+    elim w.answer [ Ok n ↦ read_effect (take n w.lent) b | Err r ↦ Err r leaving b ]
 
 -- g was written into lent bytes and what was written read into lent lists: a well-formed g for which there is room comes back
-abbrev pub WrittenAgain : Graph → List ℕ → Buffers → ReadText → Buffers → Type 0
+abbrev pub WrittenAgain : Graph → List ℕ → Buffers → Result Counts Refusal → Buffers → Type 0
 WrittenAgain g bytes before r after =
     WellFormed g → length (text_of g) ≤ length bytes → RoomFor g before
     → ReadAs g before (r leaving after)
 
 -- a table was asked for over lent leaves: over a window it is told
-abbrev pub Tabled : Graph → ℕ → Leaves → RootTable → Type 0
+abbrev pub Tabled : Graph → ℕ → Leaves → Result Table Refusal → Type 0
 Tabled g root w t = Window g root w → TableAs g root w t
 
 -- g was evaluated into lent words: a well-formed g under an assignment of its inputs, with room, leaves its outputs' values
-abbrev pub ValuesLeft : Graph → List ℕ → List ℕ → Evaluated → List ℕ → Type 0
+abbrev pub ValuesLeft : Graph → List ℕ → List ℕ → Result ℕ Refusal → List ℕ → Type 0
 ValuesLeft g vs before r after =
     WellFormed g → Assignment g.net vs → length g.outputs ≤ length before
     → EvaluatedAs g vs before (r leaving after)
 
 -- leaves were picked for a root, and its table asked for over them: at a gate in use of a well-formed graph both are accepted
-abbrev pub PickedAndTabled : Graph → ℕ → Picked → RootTable → Type 0
-PickedAndTabled g root p t = WellFormed g → InUse g root → PickedAs g root p × TableAs g root p.leaves t
+abbrev pub PickedAndTabled : Graph → ℕ → Result Leaves Refusal → Result Table Refusal → Type 0
+PickedAndTabled g root p t = WellFormed g → InUse g root → (picked-now : PickedAs g root p) × TableAs g root picked-now.leaves t
 
 -- the graph that the first words of two lists are: so many inputs, gates and outputs
 abbrev pub graph_in : ℕ → ℕ → ℕ → Buffers → Graph
@@ -161,13 +159,13 @@ graph_in i a o b = graph_of i (take (2 * a) b.gates) (take o b.outputs)
 
 -- a proposal was applied to g, whatever came in: where it was accepted it was good, and the lent lists hold, over g's inputs, a graph
 -- that keeps each output's value and in which strictly fewer gates are in use
-abbrev pub AcceptedKeeps : Graph → ℕ → Leaves → Proposal → Buffers → Applied → Buffers → Type 0
+abbrev pub AcceptedKeeps : Graph → ℕ → Leaves → Proposal → Buffers → Result Finished Refusal → Buffers → Type 0
 AcceptedKeeps g root w p before r after =
-    (a o : ℕ) → r ≡ Applied.Graph a o
-    → GoodProposal g root w p × AppliedAs g (graph_in g.net.inputs a o after) before (r leaving after)
+    (n : Finished) → r ≡ Ok n
+    → GoodProposal g root w p × AppliedAs g (graph_in g.net.inputs n.gates n.outputs after) before (r leaving after)
 
 -- and the other way: a good one is accepted where there is room for what it makes
-abbrev pub GoodIsAccepted : Graph → ℕ → Leaves → Proposal → Buffers → Applied → Buffers → Type 0
+abbrev pub GoodIsAccepted : Graph → ℕ → Leaves → Proposal → Buffers → Result Finished Refusal → Buffers → Type 0
 GoodIsAccepted g root w p before r after =
     GoodProposal g root w p → RoomFor (finished g root p) before
     → AppliedAs g (finished g root p) before (r leaving after)

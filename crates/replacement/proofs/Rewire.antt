@@ -4,6 +4,8 @@ use mathlib.Core.Path.{◌≡◌, refl}
 use mathlib.Core.Bool.{Bool, true, false, cond}
 use mathlib.Core.List.{List}
 use mathlib.Core.Logic.{⊎_elim}
+use native.Mathlib.Bridge.{le_prop}
+use Rattle.std.proofs.Props.{props}
 use Prim.Native.Nat.{ℕ, suc, ◌+◌, ◌*◌, ◌≤◌, ◌<◌}
 use native.Mathlib.Omega.{arith}
 use borrow.Author.Tests.{eq-eqb, ne_eqb}
@@ -151,3 +153,13 @@ module _ (g : Graph) (ok : Lawful g) (root : ℕ) (gate : IsGate g.net root) (p 
           rewired_size g.net root p,
         );
   }
+
+eq_prop : {m n : ℕ} → IsProp (m ≡ n)
+eq_prop = Prim.hlevel props
+
+-- a proposal wires in one way only
+pub Wires-prop : (root : ℕ) (p : Proposal) → IsProp (Wires root p)
+Wires-prop root p (to_literal k f s) (to_literal k' f' s') = λ i. to_literal (eq_prop k k' i) (le_prop f f' i) (eq_prop s s' i)
+Wires-prop root p (to_literal k f s) (to_and k' f' s' t') = absurd (omega arith)
+Wires-prop root p (to_and k f s t) (to_literal k' f' s') = absurd (omega arith)
+Wires-prop root p (to_and k f s t) (to_and k' f' s' t') = λ i. to_and (eq_prop k k' i) (le_prop f f' i) (le_prop s s' i) (le_prop t t' i)

@@ -8,6 +8,8 @@ use Prim.Native.Nat.{ℕ, suc, ◌*◌, ◌≤◌, ◌<◌}
 use native.Mathlib.Omega.{arith}
 use lib.ListN.{length, get_or, set, replicate, take}
 use lib.Seq.{get_or-set_same, get_or-set_other}
+use Rattle.std.specs.Prelude.{Result, Ok, Err}
+use Rattle.graph.specs.declared.refusal.Refusal.{Refusal}
 use Rattle.graph.specs.declared.refusal.Refusal.TheVariants.{NoRoom}
 use Rattle.graph.specs.Literal.{var_of}
 use Rattle.graph.specs.Lent.{short, written, Buffers, buffers_of, no_room_for, stored_in, ◌leaving◌}
@@ -17,7 +19,7 @@ use Rattle.graph.specs.Drop.{dropped}
 use Rattle.graph.proofs.Graph.{net_well_formed, sinks_below}
 use Rattle.graph.proofs.Lists.{same_tests, equal_or_not}
 use Rattle.replacement.specs.declared.types.Proposal.{Proposal}
-use Rattle.replacement.specs.declared.types.Applied.{Applied}
+use Rattle.replacement.specs.declared.types.Finished.{Finished}
 use Rattle.replacement.specs.Rewire.{Wires, to_literal, to_and, redirected, rewired_net, rewired, finished}
 use Rattle.replacement.specs.Calls.{left_in}
 use Rattle.replacement.specs.Vanish.{literals, Without, From, MarksPast}
@@ -100,8 +102,12 @@ module _ (net : Net) (ok : WellFormedNet net) (root : ℕ) (gate : IsGate net ro
 
 -- ---- the words
 
+-- the counts of a finished graph, as the call tells them
+abbrev pub told : ℕ → ℕ → Result Finished Refusal
+told gates outputs = Ok (record { gates = gates; outputs = outputs })
+
 same_graph : {a a' o o' : ℕ} {gs gs' os os' : List ℕ} → a ≡ a' → o ≡ o' → gs ≡ gs' → os ≡ os'
-    → Applied.Graph a o leaving buffers_of gs os ≡ Applied.Graph a' o' leaving buffers_of gs' os'
+    → told a o leaving buffers_of gs os ≡ told a' o' leaving buffers_of gs' os'
 same_graph p q r t = rw (p, q, r, t)
 
 module _ (g : Graph) (ok : WellFormed g) (root : ℕ) (gate : IsGate g.net root) (p : Proposal) (wires : Wires root p) (kept : List Bool)
@@ -152,14 +158,14 @@ module _ (g : Graph) (ok : WellFormed g) (root : ℕ) (gate : IsGate g.net root)
           ap₂ (λ (i j : ℕ). short i b.gates || short j b.outputs) (ap (λ (k : ℕ). 2 * k) count ∙ sym finished_words)
           (sym (finished_sinks g root p))
 
-      pub finish_refused : no_room_for (finished g root p) b ≡ true → Applied.Refused NoRoom leaving b ≡ finish_effect g root p b
+      pub finish_refused : no_room_for (finished g root p) b ≡ true → Err NoRoom leaving b ≡ finish_effect g root p b
       unfolding finish_effect
       finish_refused e = rw e
 
       pub finish_stored : no_room_for (finished g root p) b ≡ false → {gs os : List ℕ}
           → gs ≡ written (kept_gates (rewired_net g.net root p) kept numbers) b.gates
           → os ≡ written (map (λ l. by_numbers numbers (redirected root p l)) g.outputs) b.outputs
-          → Applied.Graph m (length g.outputs) leaving buffers_of gs os ≡ finish_effect g root p b
+          → told m (length g.outputs) leaving buffers_of gs os ≡ finish_effect g root p b
       unfolding finish_effect left_in stored_in
       finish_stored e x y =
           let gates : m ≡ size (finished g root p).net = omega (arith, count, finished_words) in

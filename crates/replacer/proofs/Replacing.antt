@@ -7,6 +7,7 @@ use mathlib.Core.Logic.{⊎_elim}
 use mathlib.Core.Option.{Option, none, some, or_else}
 use Prim.Native.Nat.{ℕ}
 use native.Mathlib.Omega.{arith}
+use Rattle.std.specs.Prelude.{Result, Ok, Err}
 use Rattle.graph.specs.declared.refusal.Refusal.{Refusal}
 use Rattle.graph.specs.declared.refusal.Refusal.TheVariants.{NoGain, OrderLost, NoRoom}
 use Rattle.graph.specs.Lent.{Buffers, no_room_for, ◌leaving◌}
@@ -18,7 +19,7 @@ use Rattle.graph.proofs.Lists.{true_or_false}
 use Rattle.graph.proofs.Refuse.{first_join}
 use Rattle.window.specs.declared.leaf_set.Leaves.{Leaves}
 use Rattle.replacement.specs.declared.types.Proposal.{Proposal}
-use Rattle.replacement.specs.declared.types.Applied.{Applied}
+use Rattle.replacement.specs.declared.types.Finished.{Finished}
 use Rattle.replacement.specs.Rewire.{Wires, finished, gain, is_at_least_one, positive}
 use Rattle.replacement.specs.Calls.{proposal_refusals, apply_refusals, left_in, apply_effect}
 use Rattle.replacement.proofs.Gain.{gain_iff, positive_iff}
@@ -28,7 +29,7 @@ use Rattle.judge.proofs.Verdicts.{proposal_known}
 use Rattle.replacer.specs.Finishing.{finish_effect, replace_effect}
 
 module _ (g : Graph) (root : ℕ) (p : Proposal) (b : Buffers) where
-  pub nothing_gained : positive (gain g root p) ≡ 0 → Applied.Refused NoGain leaving b ≡ replace_effect g root p b
+  pub nothing_gained : positive (gain g root p) ≡ 0 → Err NoGain leaving b ≡ replace_effect g root p b
   unfolding replace_effect
   nothing_gained e = ⊎_elim
       (λ t. absurd (let h = (positive_iff (gain g root p)).0 t in omega arith))
@@ -55,14 +56,14 @@ module _ (g : Graph) (root : ℕ) (w : Leaves) (p : Proposal) (b : Buffers) wher
 
   answers : (o : Option Refusal) → first_refusal (apply_refusals g root w p b) ≡ o
       → apply_effect g root w p b ≡ elim o [
-        | some r ↦ Applied.Refused r leaving b
+        | some r ↦ Err r leaving b
         | none ↦ left_in (finished g root p) b
       ]
   unfolding apply_effect
   answers o e = rw (e, apply_effect)
 
   pub apply_refused : (r : Refusal) → first_refusal (proposal_refusals g root w p) ≡ some r
-      → Applied.Refused r leaving b ≡ apply_effect g root w p b
+      → Err r leaving b ≡ apply_effect g root w p b
   unfolding or_else
   apply_refused r e = sym (answers (some r) (parts ∙ rw e))
 

@@ -1,7 +1,8 @@
 // What becomes of gates and literals once a proposal stands for a gate.
 ghost use Rattle.std.specs.Prelude.{◌≡◌};
 ghost use Rattle.graph.specs.Graph.{first, second, WellFormedNet, IsGate};
-ghost use Rattle.replacement.specs.Rewire.{Wires, Wires-prop, redirected, rewired_net};
+ghost use Rattle.replacement.specs.Rewire.{Wires, redirected, rewired_net};
+ghost use Rattle.replacement.proofs.Rewire.{Wires-prop};
 
 use graph::{Fanins, LentGraph, Lit, Var};
 use replacement::Proposal;

@@ -9,5 +9,5 @@ returns c =
     record {
       results_after = applied-now;
       good_is_accepted = λ good room. good_was_applied _ _ _ _ _ _ _ applied-now good room;
-      accepted_keeps = λ a o accepted. applied_keeps _ _ _ _ _ _ _ applied-now a o accepted;
+      accepted_keeps = λ n accepted. applied_keeps _ _ _ _ _ _ _ applied-now n accepted;
     }

@@ -17,18 +17,18 @@ use Rattle.replacer.proofs.replace.Goals.{After-list-3-1}
 
 -- what goes with the root is weighed
 weighed : (c : After-list-3-1) → let a = c.args in
-    Weighed (graph_of a.inputs a.gates.now a.outputs.now) a.root.0 (marks_in c.going_with-going.new.marks) c.going_with-going.result
+    Weighed a.graph.now a.root.0 (marks_in c.going_with-going.new.marks) c.going_with-going.result
 weighed c =
     let a = c.args in
     let lawful = c.requires.0.lawful in
     let used = c.requires.1 in
     let past = c.mark_past.ensures in
-    let graph = graph_of a.inputs a.gates.now a.outputs.now in
+    let graph = a.graph.now in
     record {
       lawful = lawful;
       used = used;
       past = subst⁻¹ (MarksPast graph a.root.0) c.going_with-going.ensures.marks_unchanged past;
-      going_is = c.going_with-going.ensures.going_with a.outputs.now lawful used past;
+      going_is = c.going_with-going.ensures.going_with a.graph.now.outputs lawful used past;
     }
 
 pub mark_past-requires : goal.mark_past-requires
@@ -41,38 +41,38 @@ mark_past-requires c =
 
 pub going_with-going-requires-clause-walkable : goal.going_with-going-requires-clause-walkable
 going_with-going-requires-clause-walkable c =
-    let net_ok = net_well_formed (graph_of c.args.inputs c.args.gates.now c.args.outputs.now) c.requires.0 in
+    let net_ok = net_well_formed c.args.graph.now c.requires.0 in
     (net_ok, omega (arith, marks_length c.mark_past.new.marks), omega arith)
 
 pub gain-requires-clause-walkable : goal.gain-requires-clause-walkable
 gain-requires-clause-walkable c =
-    let net_ok = net_well_formed (graph_of c.args.inputs c.args.gates.now c.args.outputs.now) c.requires.0 in
+    let net_ok = net_well_formed c.args.graph.now c.requires.0 in
     (net_ok, omega (arith, marks_length c.going_with-going.new.marks), omega arith)
 
 pub returns-then-gain-eq0 : goal.returns-then-gain-eq0
 returns-then-gain-eq0 c =
     let a = c.args in
-    let gain_is = c.gain.ensures.gains a.outputs.now a.root.0 (weighed (goal.at.returns-then-gain-eq0 c).After-list-3-1) c.requires.2 in
-    nothing_gained (graph_of a.inputs a.gates.now a.outputs.now) a.root.0 a.proposal (buffers_of a.words.now a.results.now)
+    let gain_is = c.gain.ensures.gains a.graph.now.outputs a.root.0 (weighed (goal.at.returns-then-gain-eq0 c).After-list-3-1) c.requires.2 in
+    nothing_gained a.graph.now a.root.0 a.proposal (buffers_of a.words.now a.results.now)
     (sym gain_is ∙ c.if-gain-eq0.true)
 
 pub mark_kept-requires-clause-walkable : goal.mark_kept-requires-clause-walkable
 mark_kept-requires-clause-walkable c =
-    let net_ok = net_well_formed (graph_of c.args.inputs c.args.gates.now c.args.outputs.now) c.requires.0 in
+    let net_ok = net_well_formed c.args.graph.now c.requires.0 in
     (net_ok, omega (arith, marks_length c.gain.new.marks), omega arith)
 
 pub store_finished-requires-clause-kept_marks : goal.store_finished-requires-clause-kept_marks
 store_finished-requires-clause-kept_marks c =
     let a = c.args in
-    let graph = graph_of a.inputs a.gates.now a.outputs.now in
+    let graph = a.graph.now in
     let weighed_past = (weighed (goal.at.store_finished-requires-clause-kept_marks c).After-list-3-1).past in
     let past = subst⁻¹ (MarksPast graph a.root.0) c.gain.ensures.marks_unchanged weighed_past in
-    (c.mark_kept.ensures a.outputs.now c.requires.0.lawful c.requires.1 past, omega (arith, marks_length c.mark_kept.new.marks))
+    (c.mark_kept.ensures a.graph.now.outputs c.requires.0.lawful c.requires.1 past, omega (arith, marks_length c.mark_kept.new.marks))
 
 pub returns : goal.returns
 returns c =
     let a = c.args in
-    let gain_is = c.gain.ensures.gains a.outputs.now a.root.0 (weighed (goal.at.returns c).After-list-3-1) c.requires.2 in
+    let gain_is = c.gain.ensures.gains a.graph.now.outputs a.root.0 (weighed (goal.at.returns c).After-list-3-1) c.requires.2 in
     c.store_finished.ensures
-    ∙ something_gained (graph_of a.inputs a.gates.now a.outputs.now) a.root.0 a.proposal (buffers_of a.words.now a.results.now)
+    ∙ something_gained a.graph.now a.root.0 a.proposal (buffers_of a.words.now a.results.now)
     (λ h. c.if-gain-eq0.false (gain_is ∙ h))

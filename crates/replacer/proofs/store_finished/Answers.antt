@@ -23,66 +23,69 @@ use Rattle.replacer.proofs.store_finished.Goals.{After-numbers-2-1, After-number
 
 -- there is a number for each variable
 numbers_long : (c : After-numbers-2-1) → let a = c.args in
-    last (graph_of a.inputs a.gates.now a.outputs.now).net < length c.renumber-kept.new.numbers
+    last a.rewiring.now.graph.now.net < length c.renumber-gates.new.numbers
 numbers_long c =
-    let net = (graph_of c.args.inputs c.args.gates.now c.args.outputs.now).net in
+    let net = c.args.rewiring.now.graph.now.net in
     let fresh = length-replicate {A = ℕ} most_variables 0 in
-    let ok = c.requires.well_formed.0 in
+    let ok = c.requires.well_formed in
     let long = numbers_length net (marks_in c.args.marks.now) (replicate most_variables 0) (omega (arith, fresh)) in
-    omega (arith, ap length c.renumber-kept.ensures.numbers_after, long, fresh)
+    omega (arith, ap length c.renumber-gates.ensures.numbers_after, long, fresh)
 
 -- small enough for a literal
-numbers_stay_small : (c : After-numbers-2-1) → SmallNumbers c.renumber-kept.new.numbers
+numbers_stay_small : (c : After-numbers-2-1) → SmallNumbers c.renumber-gates.new.numbers
 numbers_stay_small c =
-    let graph = graph_of c.args.inputs c.args.gates.now c.args.outputs.now in
-    subst⁻¹ SmallNumbers c.renumber-kept.ensures.numbers_after
-    (numbers_small graph.net (marks_in c.args.marks.now) (net_well_formed graph c.requires.well_formed.0) most_variables)
+    let graph = c.args.rewiring.now.graph.now in
+    subst⁻¹ SmallNumbers c.renumber-gates.ensures.numbers_after
+    (numbers_small graph.net (marks_in c.args.marks.now) (net_well_formed graph c.requires.well_formed) most_variables)
 
 -- past the test of the room there is room for the finished graph
 room : (c : After-numbers-3-1) → let a = c.args in
-    RoomFor (finished (graph_of a.inputs a.gates.now a.outputs.now) a.root.0 a.proposal) (buffers_of a.words.now a.results.now)
+    RoomFor (finished a.rewiring.now.graph.now a.rewiring.now.root.0 a.rewiring.now.proposal) (buffers_of a.words.now a.results.now)
 room c =
     let a = c.args in
-    let (ok, gate, wires) = c.requires.well_formed in
-    let test_is = room_is (graph_of a.inputs a.gates.now a.outputs.now) ok a.root.0 gate a.proposal wires (marks_in a.marks.now)
-    c.requires.kept_marks.0 most_variables (buffers_of a.words.now a.results.now) c.renumber-kept.ensures.value in
+    let ok = c.requires.well_formed in
+    let gate = a.rewiring.now.gate in
+    let wires = a.rewiring.now.wires in
+    let test_is = room_is a.rewiring.now.graph.now ok a.rewiring.now.root.0 gate a.rewiring.now.proposal wires (marks_in a.marks.now)
+    c.requires.kept_marks.0 most_variables (buffers_of a.words.now a.results.now) c.renumber-gates.ensures.value in
     (room_iff _ _).0 (sym (c.no_room.ensures ∙ test_is) ∙ c.if-no_room.false)
 
-pub overflow_mul-kept : goal.overflow_mul-kept
-overflow_mul-kept c =
-    let net = (graph_of c.args.inputs c.args.gates.now c.args.outputs.now).net in
-    let ok = c.requires.well_formed.0 in
-    record { fits = omega (arith, c.renumber-kept.ensures.value, count_most net (marks_in c.args.marks.now) (size net)) }
+pub overflow_mul-gates : goal.overflow_mul-gates
+overflow_mul-gates c =
+    let net = c.args.rewiring.now.graph.now.net in
+    let ok = c.requires.well_formed in
+    record { fits = omega (arith, c.renumber-gates.ensures.value, count_most net (marks_in c.args.marks.now) (size net)) }
 
 pub returns-then-no_room : goal.returns-then-no_room
 returns-then-no_room c =
     let a = c.args in
-    let graph = graph_of a.inputs a.gates.now a.outputs.now in
+    let graph = a.rewiring.now.graph.now in
     let buffers = buffers_of a.words.now a.results.now in
     let kept = marks_in a.marks.now in
-    let (ok, gate, wires) = c.requires.well_formed in
+    let ok = c.requires.well_formed in
+    let gate = a.rewiring.now.gate in
+    let wires = a.rewiring.now.wires in
     let stays = c.requires.kept_marks.0 in
-    let count = c.renumber-kept.ensures.value in
-    let test_is = room_is graph ok a.root.0 gate a.proposal wires kept stays most_variables buffers count in
-    finish_refused graph ok a.root.0 gate a.proposal wires kept stays most_variables buffers count
+    let count = c.renumber-gates.ensures.value in
+    let test_is = room_is graph ok a.rewiring.now.root.0 gate a.rewiring.now.proposal wires kept stays most_variables buffers count in
+    finish_refused graph ok a.rewiring.now.root.0 gate a.rewiring.now.proposal wires kept stays most_variables buffers count
     (sym (c.no_room.ensures ∙ test_is) ∙ c.if-no_room.true)
 
 pub put_gates-requires : goal.put_gates-requires
 put_gates-requires c =
     let a = c.args in
-    let graph = graph_of a.inputs a.gates.now a.outputs.now in
+    let graph = a.rewiring.now.graph.now in
     let kept = marks_in a.marks.now in
-    let (ok, gate, wires) = c.requires.well_formed in
+    let ok = c.requires.well_formed in
+    let gate = a.rewiring.now.gate in
+    let wires = a.rewiring.now.wires in
     let numbered = (goal.at.put_gates-requires c).After-numbers-2-1 in
     let fits = (room (goal.at.put_gates-requires c).After-numbers-3-1).gates_fit in
-    let words_by = λ (ns : List ℕ). length (kept_gates (rewired_net graph.net a.root.0 a.proposal) kept ns) in
-    let words_are = ap words_by c.renumber-kept.ensures.numbers_after
-    ∙ ap length (gates_are graph ok a.root.0 gate a.proposal wires kept c.requires.kept_marks.0 most_variables) in
+    let words_by = λ (ns : List ℕ). length (kept_gates (rewired_net graph.net a.rewiring.now.root.0 a.rewiring.now.proposal) kept ns) in
+    let words_are = ap words_by c.renumber-gates.ensures.numbers_after
+    ∙ ap length (gates_are graph ok a.rewiring.now.root.0 gate a.rewiring.now.proposal wires kept c.requires.kept_marks.0 most_variables) in
     record {
       putting = record {
-        net_ok = net_well_formed graph ok;
-        gate = gate;
-        wires = wires;
         marks_there = c.requires.kept_marks.1;
         numbers_there = numbers_long numbered;
         small = numbers_stay_small numbered;
@@ -93,26 +96,30 @@ put_gates-requires c =
 pub put_outputs-requires : goal.put_outputs-requires
 put_outputs-requires c =
     let a = c.args in
-    let graph = graph_of a.inputs a.gates.now a.outputs.now in
-    let (ok, gate, wires) = c.requires.well_formed in
+    let graph = a.rewiring.now.graph.now in
+    let ok = c.requires.well_formed in
+    let gate = a.rewiring.now.gate in
+    let wires = a.rewiring.now.wires in
     let numbered = (goal.at.put_outputs-requires c).After-numbers-2-1 in
     let fits = (room (goal.at.put_outputs-requires c).After-numbers-3-1).outputs_fit in
     record {
-      literals_below = (sinks_below graph ok.lawful _ (numbers_long numbered), numbers_stay_small numbered, wires, omega arith);
-      outputs_in_bounds = omega (arith, finished_sinks graph a.root.0 a.proposal);
+      literals_below = (sinks_below graph ok.lawful _ (numbers_long numbered), numbers_stay_small numbered);
+      outputs_in_bounds = omega (arith, finished_sinks graph a.rewiring.now.root.0 a.rewiring.now.proposal);
     }
 
 pub returns : goal.returns
 returns c =
     let a = c.args in
-    let graph = graph_of a.inputs a.gates.now a.outputs.now in
-    let net = rewired_net graph.net a.root.0 a.proposal in
+    let graph = a.rewiring.now.graph.now in
+    let net = rewired_net graph.net a.rewiring.now.root.0 a.rewiring.now.proposal in
     let kept = marks_in a.marks.now in
-    let (ok, gate, wires) = c.requires.well_formed in
-    let numbered = c.renumber-kept.ensures.numbers_after in
+    let ok = c.requires.well_formed in
+    let gate = a.rewiring.now.gate in
+    let wires = a.rewiring.now.wires in
+    let numbered = c.renumber-gates.ensures.numbers_after in
     let has_room = (room_iff _ _).1 (room (goal.at.returns c).After-numbers-3-1) in
-    finish_stored graph ok a.root.0 gate a.proposal wires kept c.requires.kept_marks.0 most_variables
-    (buffers_of a.words.now a.results.now) c.renumber-kept.ensures.value has_room
+    finish_stored graph ok a.rewiring.now.root.0 gate a.rewiring.now.proposal wires kept c.requires.kept_marks.0 most_variables
+    (buffers_of a.words.now a.results.now) c.renumber-gates.ensures.value has_room
     (c.put_gates.ensures ∙ ap (λ (ns : List ℕ). written (kept_gates net kept ns) a.words.now) numbered)
     (c.put_outputs.ensures
-    ∙ ap (λ (ns : List ℕ). written (map (λ l. by_numbers ns (redirected a.root.0 a.proposal l)) a.outputs.now) a.results.now) numbered)
+    ∙ ap (λ (ns : List ℕ). written (map (λ l. by_numbers ns (redirected a.rewiring.now.root.0 a.rewiring.now.proposal l)) a.rewiring.now.graph.now.outputs) a.results.now) numbered)

@@ -13,39 +13,41 @@ use Rattle.weigher.proofs.Steps.{set_each_length}
 use Rattle.replacer.specs.Finishing.{KeptPast}
 use Rattle.replacer.proofs.Finishing.{literal_keeps, and_keeps}
 use Rattle.replacer.proofs.finish.mark_kept.Goals as goal
-use Rattle.replacer.proofs.finish.mark_kept.Goals.{After-set_mark-arg-1}
+use Rattle.replacer.proofs.finish.mark_kept.Goals.{After-put_mark-arg-1}
 
 -- the root has a mark there
-root_marked : (c : After-set_mark-arg-1) → let reached = take c.mark_reached.result c.mark_reached.new.list in
-    c.args.root.0 < length (set_each true reached (marks_in c.args.marks.now))
+root_marked : (c : After-put_mark-arg-1) → let reached = take c.mark_reached.result c.mark_reached.new.list in
+    c.args.rewiring.now.root.0 < length (set_each true reached (marks_in c.args.marks.now))
 root_marked c =
     let long = set_each_length true (take c.mark_reached.result c.mark_reached.new.list) (marks_in c.args.marks.now) in
-    let gate = c.requires.gate.0 in
-    omega (arith, long, c.requires.walkable)
+    let gate = c.args.rewiring.now.gate in
+    omega (arith, long, c.requires)
 
-pub set_mark-requires : goal.set_mark-requires
-set_mark-requires c =
-    subst⁻¹ (λ (ms : List Bool). c.args.root.0 < length ms) c.mark_reached.ensures.marks_after (root_marked c)
+pub put_mark-requires : goal.put_mark-requires
+put_mark-requires c =
+    subst⁻¹ (λ (ms : List Bool). c.args.rewiring.now.root.0 < length ms) c.mark_reached.ensures.marks_after (root_marked c)
 
 pub returns-then-proposal-ne0 : goal.returns-then-proposal-ne0
 returns-then-proposal-ne0 c =
     let a = c.args in
-    let net = net_of a.inputs a.gates.now in
+    let net = a.rewiring.now.graph.now.net in
     let given = marks_in a.marks.now in
-    let (gate, wires) = c.requires.gate in
+    let gate = a.rewiring.now.gate in
+    let wires = a.rewiring.now.wires in
     let reached = c.mark_reached in
-    subst⁻¹ (KeptPast net given a.root.0 a.proposal)
-    (c.set_mark.ensures ∙ ap (λ (ms : List Bool). set ms a.root.0 true) reached.ensures.marks_after)
-    (and_keeps net c.requires.walkable.0 a.root.0 gate a.proposal wires given reached.new.list reached.result reached.ensures.holding
-    c.if-proposal-ne0.true (root_marked (goal.at.returns-then-proposal-ne0 c).After-set_mark-arg-1))
+    subst⁻¹ (KeptPast net given a.rewiring.now.root.0 a.rewiring.now.proposal)
+    (c.put_mark.ensures ∙ ap (λ (ms : List Bool). set ms a.rewiring.now.root.0 true) reached.ensures.marks_after)
+    (and_keeps net c.requires.0 a.rewiring.now.root.0 gate a.rewiring.now.proposal wires given reached.new.list reached.result reached.ensures.holding
+    c.if-proposal-ne0.true (root_marked (goal.at.returns-then-proposal-ne0 c).After-put_mark-arg-1))
 
 pub returns-else-proposal-ne0 : goal.returns-else-proposal-ne0
 returns-else-proposal-ne0 c =
     let a = c.args in
-    let net = net_of a.inputs a.gates.now in
+    let net = a.rewiring.now.graph.now.net in
     let given = marks_in a.marks.now in
-    let (gate, wires) = c.requires.gate in
+    let gate = a.rewiring.now.gate in
+    let wires = a.rewiring.now.wires in
     let reached = c.mark_reached in
-    subst⁻¹ (KeptPast net given a.root.0 a.proposal) reached.ensures.marks_after
-    (literal_keeps net c.requires.walkable.0 a.root.0 gate a.proposal wires given reached.new.list reached.result reached.ensures.holding
+    subst⁻¹ (KeptPast net given a.rewiring.now.root.0 a.rewiring.now.proposal) reached.ensures.marks_after
+    (literal_keeps net c.requires.0 a.rewiring.now.root.0 gate a.rewiring.now.proposal wires given reached.new.list reached.result reached.ensures.holding
     c.if-proposal-ne0.false)

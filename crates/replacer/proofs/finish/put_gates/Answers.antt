@@ -16,19 +16,19 @@ use Rattle.replacer.proofs.finish.put_gates.Goals.{In-loop-k}
 
 -- a turn has a gate
 more : (turn : In-loop-k) → let a = turn.args in
-    turn.loop-k.k < size (rewired_net (net_of a.inputs a.gates.now) a.root.0 a.proposal)
-more turn = omega (arith, rewired_size (net_of turn.args.inputs turn.args.gates.now) turn.args.root.0 turn.args.proposal)
+    turn.loop-k.k < size (rewired_net a.rewiring.now.graph.now.net a.rewiring.now.root.0 a.rewiring.now.proposal)
+more turn = omega (arith, rewired_size turn.args.rewiring.now.graph.now.net turn.args.rewiring.now.root.0 turn.args.rewiring.now.proposal)
 
 -- and the gate's variable has that place after the inputs
 place : (turn : In-loop-k) → let a = turn.args in
-    a.inputs + turn.loop-k.k + 1 ≡ suc (free (rewired_net (net_of a.inputs a.gates.now) a.root.0 a.proposal) + turn.loop-k.k)
-place turn = omega (arith, rewired_free (net_of turn.args.inputs turn.args.gates.now) turn.args.root.0 turn.args.proposal)
+    a.rewiring.now.graph.now.net.inputs + turn.loop-k.k + 1 ≡ suc (free (rewired_net a.rewiring.now.graph.now.net a.rewiring.now.root.0 a.rewiring.now.proposal) + turn.loop-k.k)
+place turn = omega (arith, rewired_free turn.args.rewiring.now.graph.now.net turn.args.rewiring.now.root.0 turn.args.rewiring.now.proposal)
 
 pub loop-k-init : goal.loop-k-init
 unfolding kept_gates
 loop-k-init c =
     let a = c.args in
-    let after = rewired_net (net_of a.inputs a.gates.now) a.root.0 a.proposal in
+    let after = rewired_net a.rewiring.now.graph.now.net a.rewiring.now.root.0 a.rewiring.now.proposal in
     pieces_none (piece after (marks_in a.marks.now) a.numbers.now) (size after) 0 a.words.now
     (omega (arith, c.requires.numbers_in_bounds))
 
@@ -46,5 +46,5 @@ loop-k-preserved c =
 pub returns : goal.returns
 unfolding kept_gates
 returns c =
-    let same_size = rewired_size (net_of c.args.inputs c.args.gates.now) c.args.root.0 c.args.proposal in
+    let same_size = rewired_size c.args.rewiring.now.graph.now.net c.args.rewiring.now.root.0 c.args.rewiring.now.proposal in
     (pieces_all c.loop-k.invariant (omega (arith, same_size))).1 ∙ laid_front _ _

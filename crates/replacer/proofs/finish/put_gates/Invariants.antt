@@ -15,8 +15,5 @@ abbrev pub piece : Net → List Bool → List ℕ → ℕ → List ℕ
 piece net ms ns k = kept_words net ms ns (suc (free net + k))
 
 abbrev pub invariant-loop-k : goal.invariant-loop-k
-invariant-loop-k l = let net = rewired_net (net_of l.inputs l.gates) l.root.0 l.proposal in
+invariant-loop-k l = let net = rewired_net l.rewiring.graph.now.net l.rewiring.root.0 l.rewiring.proposal in
     Pieces (piece net (marks_in l.marks) l.numbers) (size net) 0 l.initial.words l.k l.at l.words
-
-abbrev pub decreases-loop-k : goal.decreases-loop-k
-decreases-loop-k l = length l.gates / 2 - l.k

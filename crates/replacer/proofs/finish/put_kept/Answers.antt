@@ -35,7 +35,7 @@ marked c = sym c.has_mark.ensures ∙ c.if-not-has_mark.false
 pub returns-then-not-has_mark : goal.returns-then-not-has_mark
 returns-then-not-has_mark c =
     let a = c.args in
-    let after = rewired_net (net_of a.inputs a.gates.now) a.root.0 a.proposal in
+    let after = rewired_net a.rewiring.now.graph.now.net a.rewiring.now.root.0 a.rewiring.now.proposal in
     let both = put_off after (marks_in a.marks.now) a.numbers.now a.v.0 a.at a.words.now
     (sym c.has_mark.ensures ∙ c.if-not-has_mark.true) c.requires.v_in_bounds in
     record { value = both.0; words_after = both.1 }
@@ -43,11 +43,11 @@ returns-then-not-has_mark c =
 pub put_gate-requires : goal.put_gate-requires
 put_gate-requires c =
     let a = c.args in
-    let after = rewired_net (net_of a.inputs a.gates.now) a.root.0 a.proposal in
+    let after = rewired_net a.rewiring.now.graph.now.net a.rewiring.now.root.0 a.rewiring.now.proposal in
     let on = words_on after (marks_in a.marks.now) a.numbers.now a.v.0 (marked (goal.at.put_gate-requires c).Else-not-has_mark) in
     let put = c.requires.putting.0 in
-    let low = in_order _ put.net_ok.lawful a.root.0 put.gate a.proposal put.wires a.v.0 c.requires.putting.1 in
-    let words = c.rewired_gate-gate.ensures in
+    let low = in_order _ a.rewiring.now.net_ok.lawful a.rewiring.now.root.0 a.rewiring.now.gate a.rewiring.now.proposal a.rewiring.now.wires a.v.0 c.requires.putting.1 in
+    let words = c.gate_of.ensures in
     record {
       at_in_bounds = (omega (arith, ap length on, c.requires.v_in_bounds), put.small);
       first_in_bounds = (
@@ -59,8 +59,8 @@ put_gate-requires c =
 pub returns : goal.returns
 returns c =
     let a = c.args in
-    let after = rewired_net (net_of a.inputs a.gates.now) a.root.0 a.proposal in
-    let words = c.rewired_gate-gate.ensures in
+    let after = rewired_net a.rewiring.now.graph.now.net a.rewiring.now.root.0 a.rewiring.now.proposal in
+    let words = c.gate_of.ensures in
     let both = put_on after (marks_in a.marks.now) a.numbers.now a.v.0 a.at a.words.now
     (marked (goal.at.returns c).Else-not-has_mark) words.first_value words.second_value
     (c.put_gate.ensures.value, c.put_gate.ensures.words_after) in

@@ -23,29 +23,30 @@ loop-k-init c = (search rules, refl, refl)
 pub renumbered-requires : goal.renumbered-requires
 renumbered-requires c =
     let a = c.args in
-    let (below, small, wires, _) = c.requires.literals_below in
-    let redirected = redirected_below a.root.0 a.proposal wires a.outputs.now (length a.numbers.now) below c.loop-k.k (omega arith) in
+    let (below, small) = c.requires.literals_below in
+    let wires = a.rewiring.now.wires in
+    let redirected = redirected_below a.rewiring.now.root.0 a.rewiring.now.proposal wires a.rewiring.now.graph.now.outputs (length a.numbers.now) below c.loop-k.k (omega arith) in
     (omega (arith, redirected, c.redirected-l.ensures), small)
 
 pub loop-k-preserved : goal.loop-k-preserved
 loop-k-preserved c =
     let a = c.args in
-    let new = word a.root.0 a.proposal a.numbers.now in
+    let new = word a.rewiring.now.root.0 a.rewiring.now.proposal a.numbers.now in
     let k = c.loop-k.k in
     let found =
     c.renumbered.ensures
     ∙ ap (by_numbers a.numbers.now) c.redirected-l.ensures
-    ∙ sym (map_at new 0 0 a.outputs.now k (omega arith)) in (
+    ∙ sym (map_at new 0 0 a.rewiring.now.graph.now.outputs k (omega arith)) in (
       search rules,
       simp length-set (omega arith),
       ap₂ (λ (ws : List ℕ) (w : ℕ). set ws k w) c.loop-k.invariant.2 found
-          ∙ written_more (map new a.outputs.now) a.results.now k (omega (arith, length-map a.outputs.now new)) (omega arith),
+          ∙ written_more (map new a.rewiring.now.graph.now.outputs) a.results.now k (omega (arith, length-map a.rewiring.now.graph.now.outputs new)) (omega arith),
     )
 
 pub returns : goal.returns
 returns c =
     let a = c.args in
-    let new = word a.root.0 a.proposal a.numbers.now in
+    let new = word a.rewiring.now.root.0 a.rewiring.now.proposal a.numbers.now in
     c.loop-k.invariant.2
     ∙ ap (λ (ws : List ℕ). written ws a.results.now)
-    (take_all c.loop-k.k (map new a.outputs.now) (omega (arith, length-map a.outputs.now new)))
+    (take_all c.loop-k.k (map new a.rewiring.now.graph.now.outputs) (omega (arith, length-map a.rewiring.now.graph.now.outputs new)))

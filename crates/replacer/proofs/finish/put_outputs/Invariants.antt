@@ -14,9 +14,5 @@ abbrev pub word : ℕ → Proposal → List ℕ → ℕ → ℕ
 word root p ns l = by_numbers ns (redirected root p l)
 
 abbrev pub invariant-loop-k : goal.invariant-loop-k
-invariant-loop-k l = (l.k ≤ length l.outputs)
-    × (length l.results ≡ length l.initial.results)
-    × (l.results ≡ written (take l.k (map (word l.root.0 l.proposal l.numbers) l.outputs)) l.initial.results)
-
-abbrev pub decreases-loop-k : goal.decreases-loop-k
-decreases-loop-k l = length l.outputs - l.k
+invariant-loop-k l =
+    l.results ≡ written (take l.k (map (word l.rewiring.root.0 l.rewiring.proposal l.numbers) l.rewiring.graph.now.outputs)) l.initial.results

@@ -27,46 +27,44 @@ starts net ms [] h = absurd (omega arith)
 starts net ms (x ∷ xs) h = ap (λ (n : ℕ). n ∷ xs) (sym (number_low net ms 0 (omega arith)))
 
 -- the next variable's number
-more : (c : After-stays) → let net = net_of c.args.inputs c.args.gates.now in
+more : (c : After-stays) → let net = c.args.graph.now.net in
     c.loop-n.number + bool_byte c.stays.result ≡ new_number net (marks_in c.args.marks.now) (c.loop-n.n + 1)
 more c =
-    let net = net_of c.args.inputs c.args.gates.now in
-    ap₂ ◌+◌ c.loop-n.invariant.1 (ap bool_byte c.stays.ensures) ∙ number_next net (marks_in c.args.marks.now) c.loop-n.n
+    let net = c.args.graph.now.net in
+    ap₂ ◌+◌ c.loop-n.invariant.number_is (ap bool_byte c.stays.ensures) ∙ number_next net (marks_in c.args.marks.now) c.loop-n.n
 
-all_done : (c : After-loop-n) → c.loop-n.n ≡ last (net_of c.args.inputs c.args.gates.now)
+all_done : (c : After-loop-n) → c.loop-n.n ≡ last c.args.graph.now.net
 all_done c = omega arith
 
 -- the last number counts the inputs and all marks
-total : (c : After-loop-n) → let net = net_of c.args.inputs c.args.gates.now in
-    c.loop-n.number ≡ c.args.inputs + count_marks net (marks_in c.args.marks.now) (size net)
+total : (c : After-loop-n) → let net = c.args.graph.now.net in
+    c.loop-n.number ≡ c.args.graph.now.net.inputs + count_marks net (marks_in c.args.marks.now) (size net)
 total c =
-    let net = net_of c.args.inputs c.args.gates.now in
+    let net = c.args.graph.now.net in
     let ms = marks_in c.args.marks.now in
-    c.loop-n.invariant.1 ∙ ap (new_number net ms) (all_done c) ∙ number_counts net ms (size net)
+    c.loop-n.invariant.number_is ∙ ap (new_number net ms) (all_done c) ∙ number_counts net ms (size net)
 
 pub loop-n-init : goal.loop-n-init
 loop-n-init c =
-    let net = net_of c.args.inputs c.args.gates.now in
+    let net = c.args.graph.now.net in
     let ms = marks_in c.args.marks.now in
-    (omega arith, sym (number_low net ms 0 (omega arith)), refl, starts net ms c.args.numbers.now (omega arith))
+    record { number_is = sym (number_low net ms 0 (omega arith)); written_so_far = starts net ms c.args.numbers.now (omega arith) }
 
 pub overflow_add-number : goal.overflow_add-number
 overflow_add-number c =
-    let net = net_of c.args.inputs c.args.gates.now in
+    let net = c.args.graph.now.net in
     let small = number_small net (marks_in c.args.marks.now) (c.loop-n.n + 1) (omega arith) in
     omega (arith, more c, small, c.requires.0)
 
 pub loop-n-preserved : goal.loop-n-preserved
 loop-n-preserved c =
     let n = c.loop-n.n in
-    let net = net_of c.args.inputs c.args.gates.now in
-    let ms = marks_in c.args.marks.now in (
-      omega arith,
-      more c,
-      length-set c.loop-n.numbers _ _ ∙ c.loop-n.invariant.2,
-      ap₂ (λ (xs : List ℕ) (x : ℕ). set xs (n + 1) x) c.loop-n.invariant.3 (more c)
-          ∙ numbers_more net ms n (set c.args.numbers.now 0 0) (simp length-set (omega arith)),
-    )
+    let net = c.args.graph.now.net in
+    let ms = marks_in c.args.marks.now in record {
+      number_is = more c;
+      written_so_far = ap₂ (λ (xs : List ℕ) (x : ℕ). set xs (n + 1) x) c.loop-n.invariant.written_so_far (more c)
+          ∙ numbers_more net ms n (set c.args.numbers.now 0 0) (simp length-set (omega arith));
+    }
 
 pub overflow_sub-result : goal.overflow_sub-result
 overflow_sub-result c = omega (arith, total c)
@@ -74,11 +72,11 @@ overflow_sub-result c = omega (arith, total c)
 pub returns : goal.returns
 unfolding new_numbers
 returns c =
-    let net = net_of c.args.inputs c.args.gates.now in
+    let net = c.args.graph.now.net in
     let ms = marks_in c.args.marks.now in
     let lent = c.args.numbers.now in record {
       value = omega (arith, total c);
-      numbers_after = c.loop-n.invariant.3
+      numbers_after = c.loop-n.invariant.written_so_far
           ∙ ap (λ (n : ℕ). written (numbers_to net ms n) (set lent 0 0)) (all_done c)
           ∙ written_over (new_numbers net ms) lent 0 (omega (arith, all_numbers net ms));
     }

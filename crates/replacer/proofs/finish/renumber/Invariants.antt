@@ -10,11 +10,7 @@ use Rattle.replacer.proofs.Kept.{numbers_to}
 use Rattle.replacer.proofs.finish.renumber.Given as goal
 
 abbrev pub invariant-loop-n : goal.invariant-loop-n
-invariant-loop-n l = let net = net_of l.inputs l.gates in
-    (l.n ≤ l.last)
-    × (l.number ≡ new_number net (marks_in l.marks) l.n)
-    × (length l.numbers ≡ length l.initial.numbers)
-    × (l.numbers ≡ written (numbers_to net (marks_in l.marks) l.n) l.initial.numbers)
-
-abbrev pub decreases-loop-n : goal.decreases-loop-n
-decreases-loop-n l = l.last - l.n
+invariant-loop-n l = record {
+  number_is : l.number ≡ new_number l.graph.net (marks_in l.marks) l.n;
+  written_so_far : l.numbers ≡ written (numbers_to l.graph.net (marks_in l.marks) l.n) l.initial.numbers;
+}

@@ -5,7 +5,7 @@ use borrow.Author.Tests.{le-leb, lt-leb}
 use Rattle.replacer.proofs.finish.stays.Goals as goal
 
 pub returns-then-at-inputs : goal.returns-then-at-inputs
-returns-then-at-inputs c = let a = c.args in rw (le-leb a.v.0 a.inputs (omega arith))
+returns-then-at-inputs c = let a = c.args in rw (le-leb a.v.0 a.graph.now.net.inputs (omega arith))
 
 pub returns : goal.returns
-returns c = let a = c.args in rw (lt-leb a.v.0 a.inputs (omega arith)) c.has_mark.ensures
+returns c = let a = c.args in rw (lt-leb a.v.0 a.graph.now.net.inputs (omega arith)) c.has_mark.ensures
