@@ -1,7 +1,5 @@
 pub mod Walk
-pub mod ReaderAnswers
-pub mod Thin
-pub mod Asked
 pub mod Tokens
 pub mod Lines
-pub mod LineWalk
+pub mod Thin
+pub mod Asked
