@@ -1,5 +1,4 @@
--- Numbers and bytes. A run of digits is read digit by digit: what each digit does to the value of a run, and how a run ends.
--- Bytes are read one after the other: each is there, or the reading stops.
+-- Numbers. A run of digits is read digit by digit: what each digit does to the value of a run, and how a run ends.
 -- Assumes nothing.
 use mathlib.Core.Path.{◌≡◌, refl, sym, ap, subst, ◌∙◌}
 use mathlib.Core.Bool.{Bool, true, false, cond}
@@ -10,14 +9,13 @@ use Rattle.std.specs.Prelude.{Some, None}
 use Prim.Native.Nat.{ℕ, ◌+◌, ◌-◌, ◌*◌, ◌≤◌, ◌<◌}
 use native.Mathlib.Nat.{le_refl}
 use native.Mathlib.Omega.{arith}
-use borrow.Author.Tests.{ltb-true, ne_eqb, le-leb, lt-leb, lt-ltb}
-use lib.Dec.{leb, ltb, eqb}
+use borrow.Author.Tests.{ne_eqb, le-leb, lt-leb, lt-ltb}
+use lib.Dec.{leb, ltb}
 use lib.ListN.{length, drop, length-drop}
 use lib.Seq.{drop-drop}
-use Rattle.graph.proofs.Lists.{true_or_false, same_tests}
+use Rattle.graph.proofs.Lists.{true_or_false}
 use Rattle.text.specs.Number.{digit, is_digit, Front, front, digit_run, value_from, no_leading_zero, most_number, is_number, number}
-use Rattle.text.specs.Line.{◌>>=◌, after}
-use Rattle.scanner.specs.Tokens.{digit_at, number_step, run_value}
+use Rattle.scanner.specs.Tokens.{digit_at, run_value}
 use Rattle.text.proofs.Number.{digit_least, digit_most}
 
 -- the digits at the front of a text, and the text that follows them
@@ -155,7 +153,7 @@ pub zero_alone : (t : List ℕ) (at d : ℕ) → Some d ≡ digit_at (drop at t)
 unfolding is_number no_leading_zero value_from
 zero_alone t at d h z n =
     let u = drop (at + 1) t in
-    let r : digit_run (drop 1 (drop at t)) ≡ front [] u = rw drop-drop (over u n).runs in
+    let r : digit_run (drop 1 (drop at t)) ≡ front [] u = rw (drop-drop 1 at t) (over u n).runs in
     sym (rw (number_is (drop at t) ((taken (drop at t) d h).runs r), z))
 
 pub zero_leads : (t : List ℕ) (at d c : ℕ) → Some d ≡ digit_at (drop at t) → d ≡ 0 → Some c ≡ digit_at (drop (at + 1) t)
@@ -164,7 +162,7 @@ unfolding is_number no_leading_zero value_from
 zero_leads t at d c h z n =
     let u = drop (at + 1) t in
     let r : digit_run (drop 1 (drop at t)) ≡ front (digit c ∷ run (drop 1 u)) (rest (drop 1 u)) =
-    rw drop-drop ((taken u c n).runs refl) in
+    rw (drop-drop 1 at t) ((taken u c n).runs refl) in
     sym (rw (number_is (drop at t) ((taken (drop at t) d h).runs r), z))
 
 leads : (b : ℕ) (bs : List ℕ) → ¬ (b ≡ digit 0) → no_leading_zero (b ∷ bs) ≡ true

@@ -22,7 +22,7 @@ fn digit_at(text: &[u8], at: usize) -> Option<u32>
 }
 
 // The value of all the digits at a place, if it is no larger than a number may be.
-#[tactic(auto, unfolding(crate::specs::Tokens::number_step), using(crate::proofs::Tokens::digit_within, crate::proofs::Tokens::passed_all))]
+#[tactic(auto, using(crate::proofs::Tokens::digit_within))]
 fn digits_at(text: &[u8], at: usize) -> Option<NumberAt>
     ensures { number_step text.now result ≡ run_value (drop at text.now) }
 {

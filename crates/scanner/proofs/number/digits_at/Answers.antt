@@ -1,6 +1,5 @@
 -- `scanner::number::digits_at` meets its contract: each digit that is read leaves the run's value and what follows it as they were.
 -- Assumes nothing.
-use mathlib.Core.Path.{sym, ap, ◌∙◌}
 use native.Mathlib.Omega.{arith}
 use Rattle.scanner.specs.Tokens.{number_step}
 use Rattle.scanner.proofs.Tokens.{passed_none, passed_more, passed_limit, passed_all, passed_nothing}
