@@ -2,18 +2,18 @@
 // refusal's number, and then the two lent lists, words that were 9 before. `stdout` holds what must come out.
 #![tactic(auto)]
 
-use graph::{Lit, Var};
-use replacement::{Applied, Proposal};
+use graph::{LentGraph, Lit, Var};
+use replacement::Proposal;
 use say::{say, say_number, say_refusal, say_words};
 use std::io;
 use window::Leaves;
 
 fn any(kind: u32, first: u32, second: u32, turned: u32) -> Proposal {
     Proposal {
-        kind: kind,
+        kind,
         first: Lit(first),
         second: Lit(second),
-        turned: turned,
+        turned,
     }
 }
 
@@ -27,7 +27,7 @@ fn and_of(first: u32, second: u32, turned: u32) -> Proposal {
 
 fn over(count: usize, a: u32, b: u32) -> Leaves {
     Leaves {
-        count: count,
+        count,
         places: [Var(a), Var(b), Var(0), Var(0), Var(0), Var(0)],
     }
 }
@@ -45,24 +45,13 @@ fn applies_into(
 ) -> io::Result<()> {
     say(rt, name)?;
     say(rt, b":")?;
-    match replacer::apply(
-        2,
-        gates,
-        outputs,
-        Var(root),
-        leaves,
-        proposal,
-        words,
-        results,
-    ) {
-        Applied::Refused(refusal) => say_refusal(rt, refusal)?,
-        Applied::Graph {
-            gates: gate_count,
-            outputs: output_count,
-        } => {
+    let graph = LentGraph::new(2, gates, outputs);
+    match replacer::apply(&graph, Var(root), leaves, proposal, words, results) {
+        Err(refusal) => say_refusal(rt, refusal)?,
+        Ok(finished) => {
             say_number(rt, 0)?;
-            say_number(rt, gate_count as u64)?;
-            say_number(rt, output_count as u64)?;
+            say_number(rt, finished.gates as u64)?;
+            say_number(rt, finished.outputs as u64)?;
         }
     }
     say_words(rt, words)?;

@@ -1,50 +1,45 @@
 // Runs of picking leaves and of asking for a root's table.
 ghost use Rattle.std.specs.Prelude.{◌≤◌, IfOk, length};
 
-use graph::{Var, Verdict};
+use graph::{LentGraph, Var};
 use say::{say, say_bits, say_number, say_refusal, say_word};
 use std::io;
 use std::io::Read;
-use window::Leaves;
+use window::{Leaves, Table};
 
 fn say_leaves(rt: &impl Print, leaves: Leaves) -> io::Result<()> {
     say_number(rt, leaves.count as u64)?;
-    say_word(rt, leaves.places[0].0)?;
-    say_word(rt, leaves.places[1].0)?;
-    say_word(rt, leaves.places[2].0)?;
-    say_word(rt, leaves.places[3].0)?;
-    say_word(rt, leaves.places[4].0)?;
-    say_word(rt, leaves.places[5].0)
+    for leaf in leaves.places {
+        say_word(rt, leaf.0)?;
+    }
+    Ok(())
 }
 
 fn picks(
     rt: &impl Print,
     name: &[u8],
-    inputs: usize,
-    gates: &[u32],
-    outputs: &[u32],
+    graph: &LentGraph,
     root: u32,
 ) -> io::Result<()> {
     say(rt, name)?;
     say(rt, b":")?;
-    let picked = cutter::pick(inputs, gates, outputs, Var(root));
-    let verdict = picked.verdict;
-    match verdict {
-        Verdict::Refused(refusal) => say_refusal(rt, refusal)?,
-        Verdict::Fine => say_number(rt, 0)?,
+    let picked = cutter::pick(graph, Var(root));
+    match picked {
+        Err(refusal) => say_refusal(rt, refusal)?,
+        Ok(_) => say_number(rt, 0)?,
     }
-    say_leaves(rt, picked.leaves)?;
+    say_leaves(rt, picked.unwrap_or(Leaves::none()))?;
     say(rt, b"\n")
 }
 
 fn picks_e1(rt: &impl Print, name: &[u8], root: u32) -> io::Result<()> {
-    picks(rt, name, 2, &[4, 2, 6, 2], &[8], root)
+    picks(rt, name, &LentGraph::new(2, &[4, 2, 6, 2], &[8]), root)
 }
 
 fn roots_in_use(rt: &impl Print) -> io::Result<()> {
     picks_e1(rt, b"P2", 4)?;
     picks_e1(rt, b"root 3", 3)?;
-    picks(rt, b"gate 3 2", 1, &[3, 2], &[4], 2)
+    picks(rt, b"gate 3 2", &LentGraph::new(1, &[3, 2], &[4]), 2)
 }
 
 fn bad_roots(rt: &impl Print) -> io::Result<()> {
@@ -54,20 +49,20 @@ fn bad_roots(rt: &impl Print) -> io::Result<()> {
 }
 
 fn unused_roots(rt: &impl Print) -> io::Result<()> {
-    picks(rt, b"a gate not in use", 2, &[4, 2, 4, 3], &[6], 4)?;
-    picks(rt, b"no output", 2, &[4, 2], &[], 3)?;
-    picks(rt, b"7 and 9", 1, &[2, 3], &[4], 1)
+    picks(rt, b"a gate not in use", &LentGraph::new(2, &[4, 2, 4, 3], &[6]), 4)?;
+    picks(rt, b"no output", &LentGraph::new(2, &[4, 2], &[]), 3)?;
+    picks(rt, b"7 and 9", &LentGraph::new(1, &[2, 3], &[4]), 1)
 }
 
 fn input_limit(rt: &impl Print) -> io::Result<()> {
-    picks(rt, b"64 inputs", 64, &[128, 2], &[130], 65)?;
-    picks(rt, b"65 inputs", 65, &[130, 2], &[132], 66)
+    picks(rt, b"64 inputs", &LentGraph::new(64, &[128, 2], &[130]), 65)?;
+    picks(rt, b"65 inputs", &LentGraph::new(65, &[130, 2], &[132]), 66)
 }
 
 fn gate_limit(rt: &impl Print) -> io::Result<()> {
     let gates = [0u32; 2050];
-    picks(rt, b"1,024 gates", 0, &gates[..2048], &[2048], 1024)?;
-    picks(rt, b"1,025 gates", 0, &gates, &[2048], 1024)
+    picks(rt, b"1,024 gates", &LentGraph::new(0, &gates[..2048], &[2048]), 1024)?;
+    picks(rt, b"1,025 gates", &LentGraph::new(0, &gates, &[2048]), 1024)
 }
 
 // Reads until the bytes are full or the input ends, and says how many there are.
@@ -91,35 +86,32 @@ fn ladder<R: Print + Input>(rt: &R) -> io::Result<()> {
     let got = read_full(&mut rt.reader(), &mut text)?;
     let mut gates = [0u32; 2048];
     let mut output = [0u32; 1];
-    reader::read(&text[..got], &mut gates, &mut output);
-    picks(rt, b"the ladder", 5, &gates, &output, 1029)
+    let _ = reader::read(&text[..got], &mut gates, &mut output);
+    picks(rt, b"the ladder", &LentGraph::new(5, &gates, &output), 1029)
 }
 
 fn tables(
     rt: &impl Print,
     name: &[u8],
-    inputs: usize,
-    gates: &[u32],
-    outputs: &[u32],
+    graph: &LentGraph,
     root: u32,
     leaves: Leaves,
 ) -> io::Result<()> {
     say(rt, name)?;
     say(rt, b":")?;
-    let asked = cutter::table(inputs, gates, outputs, Var(root), leaves);
-    let verdict = asked.verdict;
-    match verdict {
-        Verdict::Refused(refusal) => say_refusal(rt, refusal)?,
-        Verdict::Fine => say_number(rt, 0)?,
+    let asked = cutter::table(graph, Var(root), leaves);
+    match asked {
+        Err(refusal) => say_refusal(rt, refusal)?,
+        Ok(_) => say_number(rt, 0)?,
     }
-    say_bits(rt, asked.table.0)?;
+    say_bits(rt, asked.unwrap_or(Table::zero()).0)?;
     say(rt, b"\n")
 }
 
 // So many leaves, the first two of which are a and b.
 fn two_places(count: usize, a: u32, b: u32) -> Leaves {
     Leaves {
-        count: count,
+        count,
         places: [Var(a), Var(b), Var(0), Var(0), Var(0), Var(0)],
     }
 }
@@ -132,13 +124,7 @@ fn tables_e1(
     a: u32,
     b: u32,
 ) -> io::Result<()> {
-    tables(
-        rt,
-        name,
-        2,
-        &[4, 2, 6, 2],
-        &[8],
-        root,
+    tables(rt, name, &LentGraph::new(2, &[4, 2, 6, 2], &[8]), root,
         two_places(count, a, b),
     )
 }
@@ -161,85 +147,43 @@ fn leaves_out_of_place(rt: &impl Print) -> io::Result<()> {
 }
 
 fn roots_of_tables(rt: &impl Print) -> io::Result<()> {
-    tables(
-        rt,
-        b"gate 3 2 over 1",
-        1,
-        &[3, 2],
-        &[4],
-        2,
+    tables(rt, b"gate 3 2 over 1", &LentGraph::new(1, &[3, 2], &[4]), 2,
         two_places(1, 1, 0),
     )?;
-    tables(
-        rt,
-        b"not in use",
-        2,
-        &[4, 2, 4, 3],
-        &[6],
-        4,
+    tables(rt, b"not in use", &LentGraph::new(2, &[4, 2, 4, 3], &[6]), 4,
         two_places(2, 1, 2),
     )?;
     tables_e1(rt, b"root 2 over none", 2, 0, 0, 0)
 }
 
 fn table_limits(rt: &impl Print) -> io::Result<()> {
-    tables(
-        rt,
-        b"64 inputs over 2",
-        64,
-        &[128, 2],
-        &[130],
-        65,
+    tables(rt, b"64 inputs over 2", &LentGraph::new(64, &[128, 2], &[130]), 65,
         two_places(2, 1, 64),
     )?;
-    tables(
-        rt,
-        b"65 inputs over 2",
-        65,
-        &[130, 2],
-        &[132],
-        66,
+    tables(rt, b"65 inputs over 2", &LentGraph::new(65, &[130, 2], &[132]), 66,
         two_places(2, 1, 65),
     )?;
     let gates = [0u32; 2050];
-    tables(
-        rt,
-        b"1,024 gates over none",
-        0,
-        &gates[..2048],
-        &[2048],
-        1024,
+    tables(rt, b"1,024 gates over none", &LentGraph::new(0, &gates[..2048], &[2048]), 1024,
         two_places(0, 0, 0),
     )?;
-    tables(
-        rt,
-        b"1,025 gates over none",
-        0,
-        &gates,
-        &[2048],
-        1024,
+    tables(rt, b"1,025 gates over none", &LentGraph::new(0, &gates, &[2048]), 1024,
         two_places(0, 0, 0),
     )
 }
 
 fn table_pairs(rt: &impl Print) -> io::Result<()> {
-    tables(rt, b"7 and 9", 1, &[2, 3], &[4], 1, two_places(1, 1, 0))?;
+    tables(rt, b"7 and 9", &LentGraph::new(1, &[2, 3], &[4]), 1, two_places(1, 1, 0))?;
     tables_e1(rt, b"9 and 10", 2, 2, 2, 1)?;
     tables_e1(rt, b"10 and 11", 3, 1, 1, 2)
 }
 
 fn and_of_six(rt: &impl Print, name: &[u8], count: usize) -> io::Result<()> {
     let all = Leaves {
-        count: count,
+        count,
         places: [Var(1), Var(2), Var(3), Var(4), Var(5), Var(6)],
     };
-    tables(
-        rt,
-        name,
-        6,
-        &[4, 2, 14, 6, 16, 8, 18, 10, 20, 12],
-        &[22],
-        11,
+    tables(rt, name, &LentGraph::new(6, &[4, 2, 14, 6, 16, 8, 18, 10, 20, 12], &[22]), 11,
         all,
     )
 }

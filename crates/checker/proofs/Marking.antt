@@ -19,7 +19,7 @@ use Rattle.graph.proofs.Lists.{same_tests, cast_is}
 use Rattle.graph.proofs.Use.{down_keeps, down_low, marks_longer}
 use Rattle.checker.specs.Marks.{marks_in, mark_after}
 
--- ---- how marks lie in memory: beside these two laws only `set_mark`, `clear_mark` and `has_mark` know
+-- ---- how marks lie in memory: beside these two laws only `put_mark`, `clear_mark` and `has_mark` know
 
 pub marks_length : (places : List Bool) → length (marks_in places) ≡ length places
 unfolding marks_in

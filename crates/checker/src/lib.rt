@@ -4,93 +4,74 @@
 pub mod marks;
 pub mod usage;
 
-ghost use Rattle.std.specs.Prelude.{◌≡◌, ◌||◌, suc, ◌+◌, ◌*◌, ◌/◌, ◌<◌, ◌≤◌, leb, length};
+ghost use Rattle.std.specs.Prelude.{◌≡◌, ◌||◌, suc, ◌+◌, ◌*◌, ◌<◌, ◌≤◌, leb, length};
 ghost use Rattle.graph.specs.Lists.{all_below, all};
 ghost use Rattle.graph.specs.Lent.{short};
-ghost use Rattle.graph.specs.Graph.{net_of, graph_of, most_inputs, most_gates, gate_ok, well_formed};
+ghost use Rattle.graph.specs.Graph.{free, size, most_inputs, most_gates, gate_ok, well_formed};
 
-use graph::{MOST_GATES, MOST_INPUTS, MOST_OUTPUTS};
-
-fn wide(word: u32) -> usize
-    ensures { result ≡ word }
-{
-    word as usize
-}
+use graph::{LentGraph, MOST_GATES, MOST_INPUTS, MOST_OUTPUTS};
 
 // Gate k, from 0, has its larger literal first, and both are below its own.
 #[tactic(auto, using(crate::proofs::Checks::gate_bad, crate::proofs::Checks::gate_good))]
-fn gate_ok(inputs: usize, gates: &[u32], k: usize) -> bool
-    requires { (inputs ≤ most_inputs) × (k < most_gates) × (2 * k + 1 < length gates.now) }
-    ensures { result ≡ gate_ok (net_of inputs gates.now) (suc (inputs + k)) }
+fn gate_ok(graph: &LentGraph, k: usize) -> bool
+    requires { (free graph.now.net ≤ most_inputs) × (k < most_gates) × (2 * k + 1 < length graph.now.net.gates) }
+    ensures { result ≡ gate_ok graph.now.net (suc (free graph.now.net + k)) }
 {
+    let gates = graph.gates();
     let first = gates[2 * k];
     let second = gates[2 * k + 1];
     if first < second {
         return false;
     }
-    wide(first) < 2 * (inputs + k + 1)
+    (first as usize) < 2 * (graph.inputs() + k + 1)
 }
 
-fn gates_ok(inputs: usize, gates: &[u32]) -> bool
-    requires { (inputs ≤ most_inputs) × (length gates.now ≤ 2 * most_gates) }
-    ensures { result
-        ≡ all_below (λ k. gate_ok (net_of inputs gates.now) (suc (inputs + k))) (length gates.now / 2) }
+fn gates_ok(graph: &LentGraph) -> bool
+    requires { (free graph.now.net ≤ most_inputs) × (length graph.now.net.gates ≤ 2 * most_gates) }
+    ensures { result ≡ all_below (λ k. gate_ok graph.now.net (suc (free graph.now.net + k))) (size graph.now.net) }
 {
-    let count = gates.len() / 2;
-    let mut k = 0;
-    while k < count {
-        if !gate_ok(inputs, gates, k) {
+    for k in 0..graph.size() {
+        if !gate_ok(graph, k) {
             return false;
         }
-        k += 1;
     }
     true
 }
 
-// Each output is a literal up to `most`.
-fn outputs_ok(most: usize, outputs: &[u32]) -> bool
-    ensures { result ≡ all (λ l. leb l most) outputs.now }
+// No word is above `most`.
+pub fn all_up_to(words: &[u32], most: usize) -> bool
+    ensures { result ≡ all (λ word. leb word most) words.now }
 {
-    let mut k = 0;
-    while k < outputs.len() {
-        if most < wide(outputs[k]) {
-            return false;
-        }
-        k += 1;
-    }
-    true
+    words.iter().all(|word| *word as usize <= most)
 }
 
 // A lent graph keeps the rules and the limits.
 #[tactic(auto, using(crate::proofs::Checks::whole_graph))]
-pub fn well_formed(inputs: usize, gates: &[u32], outputs: &[u32]) -> bool
-    ensures { result ≡ well_formed (graph_of inputs gates.now outputs.now) }
+pub fn well_formed(graph: &LentGraph) -> bool
+    ensures { result ≡ well_formed graph.now }
 {
-    if gates.len() % 2 != 0 {
+    if graph.gates().len() % 2 != 0 {
         return false;
     }
-    let count = gates.len() / 2;
-    if MOST_INPUTS < inputs {
+    if MOST_INPUTS < graph.inputs() {
         return false;
     }
-    if MOST_OUTPUTS < outputs.len() {
+    if MOST_OUTPUTS < graph.outputs().len() {
         return false;
     }
-    if MOST_GATES < count {
+    if MOST_GATES < graph.size() {
         return false;
     }
-    if !outputs_ok(2 * (inputs + count) + 1, outputs) {
+    if !all_up_to(graph.outputs(), 2 * graph.last() + 1) {
         return false;
     }
-    gates_ok(inputs, gates)
+    gates_ok(graph)
 }
 
 // Lists lent for a graph have fewer places than so many words for its gates and so many results.
+#[tactic(auto, unfolding(graph::specs::Lent::short))]
 pub fn no_room(words: usize, results: usize, gates: &[u32], outputs: &[u32]) -> bool
     ensures { result ≡ short words gates.now || short results outputs.now }
 {
-    if gates.len() < words {
-        return true;
-    }
-    outputs.len() < results
+    gates.len() < words || outputs.len() < results
 }

@@ -1,29 +1,22 @@
-// Marks of variables in lent memory, set, taken off and read through these three functions alone.
-ghost use Rattle.std.specs.Prelude.{◌≡◌, true, false, ◌<◌, length, get_or, set};
+// Marks of variables in lent memory, put and read through these two functions alone.
+ghost use Rattle.std.specs.Prelude.{◌≡◌, false, ◌<◌, length, get_or, set};
 ghost use Rattle.checker.specs.Marks.{marks_in};
 
 use graph::Var;
 
-pub fn set_mark(marks: &mut [bool], v: Var)
+// The variable's mark is set, or taken off.
+#[tactic(auto, unfolding(crate::specs::Marks::marks_in))]
+pub fn put_mark(marks: &mut [bool], v: Var, mark: bool)
     requires { v.0 < length (marks_in marks.old) }
-    ensures { marks_in marks.new ≡ set (marks_in marks.old) v.0 true }
+    ensures { marks_in marks.new ≡ set (marks_in marks.old) v.0 mark }
 {
-    let at = v.at();
-    marks[at] = true;
+    marks[v.at()] = mark;
 }
 
-pub fn clear_mark(marks: &mut [bool], v: Var)
-    requires { v.0 < length (marks_in marks.old) }
-    ensures { marks_in marks.new ≡ set (marks_in marks.old) v.0 false }
-{
-    let at = v.at();
-    marks[at] = false;
-}
-
+#[tactic(auto, unfolding(crate::specs::Marks::marks_in))]
 pub fn has_mark(marks: &[bool], v: Var) -> bool
     requires { v.0 < length (marks_in marks.now) }
     ensures { result ≡ get_or (marks_in marks.now) v.0 false }
 {
-    let at = v.at();
-    marks[at]
+    marks[v.at()]
 }

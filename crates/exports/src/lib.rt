@@ -21,9 +21,8 @@ ghost use Rattle.exports.specs.Exported.{
   Told,
 };
 
-use graph::{Evaluated, Lit, Var, Verdict};
-use replacement::{Applied, Proposal};
-use text::{ReadText, WrittenText};
+use graph::{LentGraph, Lit, Var};
+use replacement::Proposal;
 use window::Leaves;
 
 // Reads a text; i, a and o get the counts of inputs, gates and outputs.
@@ -41,15 +40,11 @@ pub fn nenquilco_read(
         result (i.new ∷ a.new ∷ o.new ∷ []) (buffers_of gates.new outputs.new) }
 {
     match reader::read(text, gates, outputs) {
-        ReadText::Refused(refusal) => refusal.number(),
-        ReadText::Graph {
-            inputs,
-            gates: gate_count,
-            outputs: output_count,
-        } => {
-            *i = inputs;
-            *a = gate_count;
-            *o = output_count;
+        Err(refusal) => refusal.number(),
+        Ok(counts) => {
+            *i = counts.inputs;
+            *a = counts.gates;
+            *o = counts.outputs;
             0
         }
     }
@@ -67,9 +62,10 @@ pub fn nenquilco_write(
         (writes inputs gates.now outputs.now bytes.old).lent
         (n.old ∷ []) result (n.new ∷ []) bytes.new }
 {
-    match writer::write(inputs, gates, outputs, bytes) {
-        WrittenText::Refused(refusal) => refusal.number(),
-        WrittenText::Bytes(length) => {
+    let graph = LentGraph::new(inputs, gates, outputs);
+    match writer::write(&graph, bytes) {
+        Err(refusal) => refusal.number(),
+        Ok(length) => {
             *n = length;
             0
         }
@@ -90,9 +86,10 @@ pub fn nenquilco_evaluate(
         (evaluates inputs gates.now outputs.now assignment.now values.old).lent
         (n.old ∷ []) result (n.new ∷ []) values.new }
 {
-    match evaluator::evaluate(inputs, gates, outputs, assignment, values) {
-        Evaluated::Refused(refusal) => refusal.number(),
-        Evaluated::Outputs(count) => {
+    let graph = LentGraph::new(inputs, gates, outputs);
+    match evaluator::evaluate(&graph, assignment, values) {
+        Err(refusal) => refusal.number(),
+        Ok(count) => {
             *n = count;
             0
         }
@@ -117,12 +114,10 @@ pub fn nenquilco_pick(
         (n.old ∷ a.old ∷ b.old ∷ c.old ∷ d.old ∷ e.old ∷ f.old ∷ []) result
         (n.new ∷ a.new ∷ b.new ∷ c.new ∷ d.new ∷ e.new ∷ f.new ∷ []) no_lists }
 {
-    let picked = cutter::pick(inputs, gates, outputs, Var(root));
-    let leaves = picked.leaves;
-    let verdict = picked.verdict;
-    match verdict {
-        Verdict::Refused(refusal) => refusal.number(),
-        Verdict::Fine => {
+    let graph = LentGraph::new(inputs, gates, outputs);
+    match cutter::pick(&graph, Var(root)) {
+        Err(refusal) => refusal.number(),
+        Ok(leaves) => {
             *n = leaves.count;
             *a = leaves.places[0].0;
             *b = leaves.places[1].0;
@@ -140,10 +135,7 @@ fn leaves_at(n: usize, a: u32, b: u32, c: u32, d: u32, e: u32, f: u32) -> Leaves
     ensures { result ≡ leaves_at n (a ∷ b ∷ c ∷ d ∷ e ∷ f ∷ []) }
 {
     let places = [Var(a), Var(b), Var(c), Var(d), Var(e), Var(f)];
-    Leaves {
-        count: n,
-        places: places,
-    }
+    Leaves { count: n, places }
 }
 
 // Asks for a root's table over n leaves in the six places a to f; bits gets its 64 bits.
@@ -166,12 +158,11 @@ pub fn nenquilco_table(
         (bits.old ∷ []) result (bits.new ∷ []) no_lists }
 {
     let leaves = leaves_at(n, a, b, c, d, e, f);
-    let asked = cutter::table(inputs, gates, outputs, Var(root), leaves);
-    let verdict = asked.verdict;
-    match verdict {
-        Verdict::Refused(refusal) => refusal.number(),
-        Verdict::Fine => {
-            *bits = asked.table.0;
+    let graph = LentGraph::new(inputs, gates, outputs);
+    match cutter::table(&graph, Var(root), leaves) {
+        Err(refusal) => refusal.number(),
+        Ok(table) => {
+            *bits = table.0;
             0
         }
     }
@@ -209,28 +200,17 @@ pub fn nenquilco_apply(
 {
     let leaves = leaves_at(n, a, b, c, d, e, f);
     let proposal = Proposal {
-        kind: kind,
+        kind,
         first: Lit(first),
         second: Lit(second),
-        turned: turned,
+        turned,
     };
-    match replacer::apply(
-        inputs,
-        gates,
-        outputs,
-        Var(root),
-        leaves,
-        proposal,
-        words,
-        results,
-    ) {
-        Applied::Refused(refusal) => refusal.number(),
-        Applied::Graph {
-            gates: gate_count,
-            outputs: output_count,
-        } => {
-            *x = gate_count;
-            *y = output_count;
+    let graph = LentGraph::new(inputs, gates, outputs);
+    match replacer::apply(&graph, Var(root), leaves, proposal, words, results) {
+        Err(refusal) => refusal.number(),
+        Ok(finished) => {
+            *x = finished.gates;
+            *y = finished.outputs;
             0
         }
     }

@@ -2,8 +2,7 @@
 // answers and every lent word, as the calls' own contracts do.
 #![tactic(auto)]
 
-ghost use Rattle.std.specs.Prelude.{◌≡◌};
-ghost use Rattle.graph.specs.Graph.{graph_of};
+ghost use Rattle.std.specs.Prelude.{◌≡◌, MatchResult};
 ghost use Rattle.graph.specs.Evaluate.{evaluate_effect};
 ghost use Rattle.graph.specs.Lent.{buffers_of, ◌leaving◌};
 ghost use Rattle.text.specs.Calls.{read_effect, write_effect};
@@ -20,39 +19,35 @@ ghost use Rattle.promises.specs.Promises.{
   SameAgain,
 };
 
-use graph::{Evaluated, Var};
-use replacement::{Applied, Proposal};
-use text::{ReadText, WrittenText};
-use window::{Leaves, Picked, RootTable};
+use graph::{LentGraph, Refusal, Var};
+use replacement::{Finished, Proposal};
+use text::Counts;
+use window::{Leaves, Table};
 
 // Writes a graph and reads what was written.
 pub fn write_then_read(
-    inputs: usize,
-    gates: &[u32],
-    outputs: &[u32],
+    graph: &LentGraph,
     bytes: &mut [u8],
     words: &mut [u32],
     results: &mut [u32],
-) -> ReadText
+) -> Result<Counts, Refusal>
     ensures results_after { result leaving buffers_of words.new results.new
-        ≡ read_back (write_effect (graph_of inputs gates.now outputs.now) bytes.old)
+        ≡ read_back (write_effect graph.now bytes.old)
         (buffers_of words.old results.old) }
     ensures bytes_after { bytes.new
-        ≡ (write_effect (graph_of inputs gates.now outputs.now) bytes.old).lent }
-    ensures written_again { WrittenAgain (graph_of inputs gates.now outputs.now) bytes.old
+        ≡ (write_effect graph.now bytes.old).lent }
+    ensures written_again { WrittenAgain graph.now bytes.old
         (buffers_of words.old results.old) result (buffers_of words.new results.new) }
 {
-    match writer::write(inputs, gates, outputs, bytes) {
-        WrittenText::Refused(refusal) => ReadText::Refused(refusal),
-        WrittenText::Bytes(length) => reader::read(&bytes[..length], words, results),
-    }
+    let length = writer::write(graph, bytes)?;
+    reader::read(&bytes[..length], words, results)
 }
 
 // The answers of two calls.
 #[derive(Clone, Copy)]
 pub struct TwoAnswers {
-    pub first: ReadText,
-    pub second: ReadText,
+    pub first: Result<Counts, Refusal>,
+    pub second: Result<Counts, Refusal>,
 }
 
 // Reads a text twice, each time into lists of its own.
@@ -76,71 +71,68 @@ pub fn read_twice(
     TwoAnswers { first, second }
 }
 
-// A root's leaves, and its table over them.
+// A root's leaves, and its table over them: the same refusal where there are no leaves.
 #[derive(Clone, Copy)]
 pub struct LeavesAndTable {
-    pub picked: Picked,
-    pub table: RootTable,
+    pub picked: Result<Leaves, Refusal>,
+    pub table: Result<Table, Refusal>,
 }
 
 // Picks a root's leaves and asks for its table over them.
-pub fn pick_then_table(inputs: usize, gates: &[u32], outputs: &[u32], root: Var) -> LeavesAndTable
-    ensures picked_value { result.picked ≡ pick_answer (graph_of inputs gates.now outputs.now) root.0 }
-    ensures table_value { result.table ≡ table_answer (graph_of inputs gates.now outputs.now) root.0 result.picked.leaves }
-    ensures picked_and_tabled { PickedAndTabled (graph_of inputs gates.now outputs.now) root.0 result.picked result.table }
+pub fn pick_then_table(graph: &LentGraph, root: Var) -> LeavesAndTable
+    ensures picked_value { result.picked ≡ pick_answer graph.now root.0 }
+    ensures table_value { MatchResult result.picked (λ leaves. result.table ≡ table_answer graph.now root.0 leaves) (λ refusal. result.table ≡ Err refusal) }
+    ensures picked_and_tabled { PickedAndTabled graph.now root.0 result.picked result.table }
 {
-    let picked = cutter::pick(inputs, gates, outputs, root);
-    let table = cutter::table(inputs, gates, outputs, root, picked.leaves);
+    let picked = cutter::pick(graph, root);
+    let table = match picked {
+        Ok(leaves) => cutter::table(graph, root, leaves),
+        Err(refusal) => Err(refusal),
+    };
     LeavesAndTable { picked, table }
 }
 
 // Asks for a root's table over lent leaves.
 pub fn table_over(
-    inputs: usize,
-    gates: &[u32],
-    outputs: &[u32],
+    graph: &LentGraph,
     root: Var,
     leaves: Leaves,
-) -> RootTable
-    ensures value { result ≡ table_answer (graph_of inputs gates.now outputs.now) root.0 leaves }
-    ensures tabled { Tabled (graph_of inputs gates.now outputs.now) root.0 leaves result }
+) -> Result<Table, Refusal>
+    ensures value { result ≡ table_answer graph.now root.0 leaves }
+    ensures tabled { Tabled graph.now root.0 leaves result }
 {
-    cutter::table(inputs, gates, outputs, root, leaves)
+    cutter::table(graph, root, leaves)
 }
 
 // Evaluates a graph under a lent assignment.
 pub fn evaluate_under(
-    inputs: usize,
-    gates: &[u32],
-    outputs: &[u32],
+    graph: &LentGraph,
     assignment: &[u32],
     values: &mut [u32],
-) -> Evaluated
+) -> Result<usize, Refusal>
     ensures values_value { result leaving values.new
-        ≡ evaluate_effect (graph_of inputs gates.now outputs.now) assignment.now values.old }
-    ensures values_left { ValuesLeft (graph_of inputs gates.now outputs.now) assignment.now
+        ≡ evaluate_effect graph.now assignment.now values.old }
+    ensures values_left { ValuesLeft graph.now assignment.now
         values.old result values.new }
 {
-    evaluator::evaluate(inputs, gates, outputs, assignment, values)
+    evaluator::evaluate(graph, assignment, values)
 }
 
 // Applies a proposal. Good ones are accepted, and none else; what then stands in the lent lists keeps each output's value.
 pub fn apply_proposal(
-    inputs: usize,
-    gates: &[u32],
-    outputs: &[u32],
+    graph: &LentGraph,
     root: Var,
     leaves: Leaves,
     proposal: Proposal,
     words: &mut [u32],
     results: &mut [u32],
-) -> Applied
+) -> Result<Finished, Refusal>
     ensures results_after { result leaving buffers_of words.new results.new
-        ≡ apply_effect (graph_of inputs gates.now outputs.now) root.0 leaves proposal
+        ≡ apply_effect graph.now root.0 leaves proposal
         (buffers_of words.old results.old) }
-    ensures good_is_accepted { GoodIsAccepted (graph_of inputs gates.now outputs.now) root.0 leaves proposal
+    ensures good_is_accepted { GoodIsAccepted graph.now root.0 leaves proposal
         (buffers_of words.old results.old) result (buffers_of words.new results.new) }
-    ensures accepted_keeps { AcceptedKeeps (graph_of inputs gates.now outputs.now) root.0 leaves proposal
+    ensures accepted_keeps { AcceptedKeeps graph.now root.0 leaves proposal
         (buffers_of words.old results.old) result (buffers_of words.new results.new) }
 {
     replacer::apply(

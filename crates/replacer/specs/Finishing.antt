@@ -1,15 +1,16 @@
 -- What is left of the rewired graph: its marks, the new numbers, and its words by them.
 -- Assumes nothing.
-use Rattle.std.specs.Prelude.{ℕ, suc, ◌+◌, ◌*◌, ◌%◌, ◌^◌, ◌<◌, ◌≡◌, Bool, false, cond, List, [], ◌∷◌, length, get_or}
+use Rattle.std.specs.Prelude.{ℕ, suc, ◌+◌, ◌*◌, ◌%◌, ◌^◌, ◌<◌, ◌≡◌, Bool, false, cond, List, [], ◌∷◌, Result, Err, length, get_or}
 use Rattle.graph.specs.Lists.{gather}
 use Rattle.graph.specs.Literal.{var_of}
 use Rattle.graph.specs.Lent.{Buffers, no_room_for, Effect, ◌leaving◌}
+use Rattle.graph.specs.declared.refusal.Refusal.{Refusal}
 use Rattle.graph.specs.declared.refusal.Refusal.TheVariants.{NoGain, NoRoom}
-use Rattle.graph.specs.Graph.{Net, Graph, over, free, size, last, first, second, IsGate, Lawful, WellFormedNet}
+use Rattle.graph.specs.Graph.{Net, Graph, over, free, size, last, first, second, IsGate, Lawful}
 use Rattle.graph.specs.Use.{InUse, marks}
 use Rattle.graph.specs.Drop.{new_number}
 use Rattle.replacement.specs.declared.types.Proposal.{Proposal}
-use Rattle.replacement.specs.declared.types.Applied.{Applied}
+use Rattle.replacement.specs.declared.types.Finished.{Finished}
 use Rattle.replacement.specs.Rewire.{Wires, rewired, finished, gain, is_at_least_one}
 use Rattle.replacement.specs.Calls.{left_in}
 use Rattle.replacement.specs.Vanish.{MarksPast}
@@ -42,12 +43,8 @@ unfoldable pub kept_words : Net → List Bool → List ℕ → ℕ → List ℕ
 unfolding by_numbers first second
 kept_words net ms ns v = cond (get_or ms v false) (by_numbers ns (first net v) ∷ by_numbers ns (second net v) ∷ []) []
 
--- what putting gates asks for: a well-formed net, a proposal whose literals lie below a gate of it, a mark a variable, and small numbers
--- for all of them
-pub record Putting (net : Net) (root : ℕ) (p : Proposal) (ms : List Bool) (ns : List ℕ) : Type 0 where
-  pub net_ok : WellFormedNet net
-  pub gate : IsGate net root
-  pub wires : Wires root p
+-- what putting gates asks for: a mark and a small number a variable
+pub record Putting (net : Net) (ms : List Bool) (ns : List ℕ) : Type 0 where
   pub marks_there : last net < length ms
   pub numbers_there : last net < length ns
   pub small : SmallNumbers ns
@@ -58,12 +55,12 @@ unfolding gather kept_words
 kept_gates net ms ns = gather (λ k. kept_words net ms ns (suc (free net + k))) (size net)
 
 -- what storing the finished graph comes to
-unfoldable pub finish_effect : Graph → ℕ → Proposal → Buffers → Effect Applied Buffers
+unfoldable pub finish_effect : Graph → ℕ → Proposal → Buffers → Effect (Result Finished Refusal) Buffers
 unfolding finished no_room_for left_in
 finish_effect g root p b =
-    let h = finished g root p in cond (no_room_for h b) (Applied.Refused NoRoom leaving b) (left_in h b)
+    let h = finished g root p in cond (no_room_for h b) (Err NoRoom leaving b) (left_in h b)
 
 -- what replacing a root comes to, where only the gain and the room are left to judge
-unfoldable pub replace_effect : Graph → ℕ → Proposal → Buffers → Effect Applied Buffers
+unfoldable pub replace_effect : Graph → ℕ → Proposal → Buffers → Effect (Result Finished Refusal) Buffers
 unfolding gain is_at_least_one finish_effect
-replace_effect g root p b = cond (is_at_least_one (gain g root p)) (finish_effect g root p b) (Applied.Refused NoGain leaving b)
+replace_effect g root p b = cond (is_at_least_one (gain g root p)) (finish_effect g root p b) (Err NoGain leaving b)

@@ -1,71 +1,55 @@
 // The finished graph: gates not in use are dropped, and the rest renumbered.
-ghost use Rattle.std.specs.Prelude.{◌≡◌, false, ◌||◌, [], ◌∷◌, map, suc, ◌+◌, ◌<◌, ◌≤◌, ◌^◌, leb, length, get_or};
+ghost use Rattle.std.specs.Prelude.{◌≡◌, false, ◌||◌, [], ◌∷◌, map, suc, ◌+◌, ◌<◌, ◌≤◌, leb, length, get_or};
 ghost use Rattle.graph.specs.Literal.{var_of, LiteralsBelow};
 ghost use Rattle.graph.specs.Lent.{written, laid};
-ghost use Rattle.graph.specs.Graph.{net_of, size, last, WellFormedNet, IsGate};
+ghost use Rattle.graph.specs.Graph.{free, size, last, sinks, WellFormedNet, IsGate};
 ghost use Rattle.graph.specs.Use.{count_marks};
 ghost use Rattle.checker.specs.Marks.{marks_in};
-ghost use Rattle.replacement.specs.Rewire.{Wires, redirected, rewired_net};
+ghost use Rattle.replacement.specs.Rewire.{redirected, rewired_net};
 ghost use Rattle.weigher.specs.Held.{Walkable};
 ghost use Rattle.replacer.specs.Finishing.{KeptPast, new_numbers, SmallNumbers, by_numbers, kept_words, kept_gates, Putting};
 
-use crate::rewire::rewired_gate;
-use checker::marks::{has_mark, set_mark};
-use graph::{Fanins, Lit, Var};
-use replacement::Proposal;
+use crate::rewire::Rewiring;
+use checker::marks::{has_mark, put_mark};
+use graph::{Fanins, LentGraph, Lit, Var};
 use weigher::held::mark_reached;
 
 // Beside the marks past the root, marks what is in use once it is replaced.
-pub fn mark_kept(
-    inputs: usize,
-    gates: &[u32],
-    root: Var,
-    proposal: Proposal,
-    marks: &mut [bool],
-    list: &mut [u32],
-)
-    requires walkable { Walkable (net_of inputs gates.now) (marks_in marks.old) list.old }
-    requires gate { IsGate (net_of inputs gates.now) root.0 × Wires root.0 proposal }
-    ensures { KeptPast (net_of inputs gates.now) (marks_in marks.old) root.0 proposal
+pub fn mark_kept(rewiring: &Rewiring, marks: &mut [bool], list: &mut [u32])
+    requires { Walkable rewiring.now.graph.now.net (marks_in marks.old) list.old }
+    ensures { KeptPast rewiring.now.graph.now.net (marks_in marks.old) rewiring.now.root.0 rewiring.now.proposal
         (marks_in marks.new) }
 {
-    mark_reached(inputs, gates, proposal.first, proposal.second, marks, list);
+    let proposal = rewiring.proposal;
+    mark_reached(rewiring.graph, proposal.first, proposal.second, marks, list);
     if proposal.kind != 0 {
-        set_mark(marks, root);
+        put_mark(marks, rewiring.root, true);
     }
 }
 
 // The variable stays: it is no gate, or it has a mark.
-fn stays(inputs: usize, marks: &[bool], v: Var) -> bool
+fn stays(graph: &LentGraph, marks: &[bool], v: Var) -> bool
     requires { v.0 < length (marks_in marks.now) }
-    ensures { result ≡ leb v.0 inputs || get_or (marks_in marks.now) v.0 false }
+    ensures { result ≡ leb v.0 (free graph.now.net) || get_or (marks_in marks.now) v.0 false }
 {
-    if v.at() <= inputs {
-        return true;
-    }
-    has_mark(marks, v)
+    v.at() <= graph.inputs() || has_mark(marks, v)
 }
 
 // The new numbers of all variables stand at the front of `numbers`; how many gates stay.
-pub fn renumber(inputs: usize, gates: &[u32], marks: &[bool], numbers: &mut [u32]) -> usize
-    requires { WellFormedNet (net_of inputs gates.now) × (last (net_of inputs gates.now) < length (marks_in marks.now))
-        × (last (net_of inputs gates.now) < length numbers.old) }
-    ensures value { result
-        ≡ count_marks (net_of inputs gates.now) (marks_in marks.now) (size (net_of inputs gates.now)) }
-    ensures numbers_after { numbers.new
-        ≡ written (new_numbers (net_of inputs gates.now) (marks_in marks.now)) numbers.old }
+pub fn renumber(graph: &LentGraph, marks: &[bool], numbers: &mut [u32]) -> usize
+    requires { WellFormedNet graph.now.net × (last graph.now.net < length (marks_in marks.now))
+        × (last graph.now.net < length numbers.old) }
+    ensures value { result ≡ count_marks graph.now.net (marks_in marks.now) (size graph.now.net) }
+    ensures numbers_after { numbers.new ≡ written (new_numbers graph.now.net (marks_in marks.now)) numbers.old }
 {
-    let last = inputs + gates.len() / 2;
     numbers[0] = 0;
     let mut number = 0;
-    let mut n = 0;
-    while n < last {
+    for n in 0..graph.last() {
         let v = n + 1;
-        number += stays(inputs, marks, Var(v as u32)) as u32;
+        number += stays(graph, marks, Var(v as u32)) as u32;
         numbers[v] = number;
-        n = v;
     }
-    number as usize - inputs
+    number as usize - graph.inputs()
 }
 
 // A literal by the new numbers.
@@ -93,77 +77,55 @@ fn put_gate(words: &mut [u32], at: usize, gate: Fanins, numbers: &[u32]) -> usiz
 
 // What is left of v's gate goes to place `at`, if it stays; the place after it.
 fn put_kept(
-    inputs: usize,
-    gates: &[u32],
-    root: Var,
-    proposal: Proposal,
+    rewiring: &Rewiring,
     v: Var,
     marks: &[bool],
     numbers: &[u32],
     words: &mut [u32],
     at: usize,
 ) -> usize
-    requires putting { Putting (net_of inputs gates.now) root.0 proposal (marks_in marks.now) numbers.now
-        × IsGate (net_of inputs gates.now) v.0 }
-    requires v_in_bounds { at + length (kept_words (rewired_net (net_of inputs gates.now) root.0 proposal) (marks_in marks.now) numbers.now
-        v.0) ≤ length words.old }
-    ensures value { result ≡ at + length (kept_words (rewired_net (net_of inputs gates.now) root.0 proposal)
-        (marks_in marks.now) numbers.now v.0) }
-    ensures words_after { words.new ≡ laid at (kept_words (rewired_net (net_of inputs gates.now) root.0 proposal)
-        (marks_in marks.now) numbers.now v.0) words.old }
+    requires putting { Putting rewiring.now.graph.now.net (marks_in marks.now) numbers.now
+        × IsGate rewiring.now.graph.now.net v.0 }
+    requires v_in_bounds { let net = rewired_net rewiring.now.graph.now.net rewiring.now.root.0 rewiring.now.proposal in
+        at + length (kept_words net (marks_in marks.now) numbers.now v.0) ≤ length words.old }
+    ensures value { let net = rewired_net rewiring.now.graph.now.net rewiring.now.root.0 rewiring.now.proposal in
+        result ≡ at + length (kept_words net (marks_in marks.now) numbers.now v.0) }
+    ensures words_after { let net = rewired_net rewiring.now.graph.now.net rewiring.now.root.0 rewiring.now.proposal in
+        words.new ≡ laid at (kept_words net (marks_in marks.now) numbers.now v.0) words.old }
 {
     if !has_mark(marks, v) {
         return at;
     }
-    let gate = rewired_gate(inputs, gates, root, proposal, v);
-    put_gate(words, at, gate, numbers)
+    put_gate(words, at, rewiring.gate_of(v), numbers)
 }
 
 // The words of the gates that stay stand at the front of `words`.
-pub fn put_gates(
-    inputs: usize,
-    gates: &[u32],
-    root: Var,
-    proposal: Proposal,
-    marks: &[bool],
-    numbers: &[u32],
-    words: &mut [u32],
-)
-    requires putting { Putting (net_of inputs gates.now) root.0 proposal (marks_in marks.now) numbers.now }
-    requires numbers_in_bounds { length (kept_gates (rewired_net (net_of inputs gates.now) root.0 proposal) (marks_in marks.now) numbers.now)
-        ≤ length words.old }
-    ensures { words.new ≡ written (kept_gates (rewired_net (net_of inputs gates.now) root.0 proposal)
-        (marks_in marks.now) numbers.now) words.old }
+pub fn put_gates(rewiring: &Rewiring, marks: &[bool], numbers: &[u32], words: &mut [u32])
+    requires putting { Putting rewiring.now.graph.now.net (marks_in marks.now) numbers.now }
+    requires numbers_in_bounds { let net = rewired_net rewiring.now.graph.now.net rewiring.now.root.0 rewiring.now.proposal in
+        length (kept_gates net (marks_in marks.now) numbers.now) ≤ length words.old }
+    ensures { let net = rewired_net rewiring.now.graph.now.net rewiring.now.root.0 rewiring.now.proposal in
+        words.new ≡ written (kept_gates net (marks_in marks.now) numbers.now) words.old }
 {
-    let count = gates.len() / 2;
+    let graph = rewiring.graph;
     let mut at = 0;
-    let mut k = 0;
-    while k < count {
-        let v = Var((inputs + k + 1) as u32);
-        at = put_kept(inputs, gates, root, proposal, v, marks, numbers, words, at);
-        k += 1;
+    for k in 0..graph.size() {
+        let v = Var((graph.inputs() + k + 1) as u32);
+        at = put_kept(rewiring, v, marks, numbers, words, at);
     }
 }
 
 // The outputs, redirected and renumbered, stand at the front of `results`.
-pub fn put_outputs(
-    outputs: &[u32],
-    root: Var,
-    proposal: Proposal,
-    numbers: &[u32],
-    results: &mut [u32],
-)
-    requires literals_below { LiteralsBelow outputs.now (length numbers.now) × SmallNumbers numbers.now × Wires root.0 proposal
-        × (root.0 < 2 ^ 30) }
-    requires outputs_in_bounds { length outputs.now ≤ length results.old }
+pub fn put_outputs(rewiring: &Rewiring, numbers: &[u32], results: &mut [u32])
+    requires literals_below { LiteralsBelow (sinks rewiring.now.graph.now) (length numbers.now) × SmallNumbers numbers.now }
+    requires outputs_in_bounds { length (sinks rewiring.now.graph.now) ≤ length results.old }
     ensures { results.new
-        ≡ written (map (λ l. by_numbers numbers.now (redirected root.0 proposal l)) outputs.now)
+        ≡ written (map (λ l. by_numbers numbers.now (redirected rewiring.now.root.0 rewiring.now.proposal l)) (sinks rewiring.now.graph.now))
         results.old }
 {
-    let mut k = 0;
-    while k < outputs.len() {
-        let l = proposal.redirected(root, Lit(outputs[k]));
+    let outputs = rewiring.graph.outputs();
+    for k in 0..outputs.len() {
+        let l = rewiring.redirected(Lit(outputs[k]));
         results[k] = renumbered(numbers, l).0;
-        k += 1;
     }
 }

@@ -6,7 +6,7 @@ mod rewire;
 
 ghost use Rattle.std.specs.Prelude.{◌≡◌, ◌<◌, length};
 ghost use Rattle.graph.specs.Lent.{buffers_of, ◌leaving◌};
-ghost use Rattle.graph.specs.Graph.{net_of, graph_of, last, IsGate, WellFormed};
+ghost use Rattle.graph.specs.Graph.{last, WellFormed};
 ghost use Rattle.graph.specs.Use.{InUse};
 ghost use Rattle.checker.specs.Marks.{marks_in};
 ghost use Rattle.replacement.specs.Rewire.{Wires};
@@ -15,91 +15,79 @@ ghost use Rattle.replacer.specs.Finishing.{KeptMarks, finish_effect, replace_eff
 
 use checker::no_room;
 use finish::{mark_kept, put_gates, put_outputs, renumber};
-use graph::{MOST_VARIABLES, Refusal, Var, Verdict};
+use graph::{LentGraph, MOST_VARIABLES, Refusal, Var};
 use judge::proposal_verdict;
-use replacement::{Applied, Proposal};
+use replacement::{Finished, Proposal};
+use rewire::Rewiring;
 use weigher::past::mark_past;
 use weigher::weigh::{gain, going_with};
 use window::Leaves;
 
 // Stores the finished graph if there is room, where `marks` say which gates stay.
 fn store_finished(
-    inputs: usize,
-    gates: &[u32],
-    outputs: &[u32],
-    root: Var,
-    proposal: Proposal,
+    rewiring: &Rewiring,
     marks: &[bool],
     words: &mut [u32],
     results: &mut [u32],
-) -> Applied
-    requires well_formed { WellFormed (graph_of inputs gates.now outputs.now) × IsGate (net_of inputs gates.now) root.0
-        × Wires root.0 proposal }
-    requires kept_marks { KeptMarks (graph_of inputs gates.now outputs.now) root.0 proposal (marks_in marks.now)
-        × (last (net_of inputs gates.now) < length (marks_in marks.now)) }
+) -> Result<Finished, Refusal>
+    requires well_formed { WellFormed rewiring.now.graph.now }
+    requires kept_marks { KeptMarks rewiring.now.graph.now rewiring.now.root.0 rewiring.now.proposal (marks_in marks.now)
+        × (last rewiring.now.graph.now.net < length (marks_in marks.now)) }
     ensures { result leaving buffers_of words.new results.new
-        ≡ finish_effect (graph_of inputs gates.now outputs.now) root.0 proposal
+        ≡ finish_effect rewiring.now.graph.now rewiring.now.root.0 rewiring.now.proposal
         (buffers_of words.old results.old) }
 {
     let mut numbers = [0u32; MOST_VARIABLES];
-    let kept = renumber(inputs, gates, marks, &mut numbers);
-    if no_room(2 * kept, outputs.len(), words, results) {
-        return Applied::Refused(Refusal::NoRoom);
+    let gates = renumber(rewiring.graph, marks, &mut numbers);
+    let outputs = rewiring.graph.outputs().len();
+    if no_room(2 * gates, outputs, words, results) {
+        return Err(Refusal::NoRoom);
     }
-    put_gates(inputs, gates, root, proposal, marks, &numbers, words);
-    put_outputs(outputs, root, proposal, &numbers, results);
-    Applied::Graph {
-        gates: kept,
-        outputs: outputs.len(),
-    }
+    put_gates(rewiring, marks, &numbers, words);
+    put_outputs(rewiring, &numbers, results);
+    Ok(Finished { gates, outputs })
 }
 
 // Replaces a root in use by a proposal of literals below it, if that gains and there is room.
 fn replace(
-    inputs: usize,
-    gates: &[u32],
-    outputs: &[u32],
+    graph: &LentGraph,
     root: Var,
     proposal: Proposal,
     words: &mut [u32],
     results: &mut [u32],
-) -> Applied
-    requires { WellFormed (graph_of inputs gates.now outputs.now) × InUse (graph_of inputs gates.now outputs.now) root.0
-        × Wires root.0 proposal }
+) -> Result<Finished, Refusal>
+    requires { WellFormed graph.now × InUse graph.now root.0 × Wires root.0 proposal }
     ensures { result leaving buffers_of words.new results.new
-        ≡ replace_effect (graph_of inputs gates.now outputs.now) root.0 proposal
-        (buffers_of words.old results.old) }
+        ≡ replace_effect graph.now root.0 proposal (buffers_of words.old results.old) }
 {
     let mut marks = [false; MOST_VARIABLES];
     let mut list = [0u32; MOST_VARIABLES];
-    mark_past(inputs, gates, outputs, root, &mut marks);
-    let going = going_with(inputs, gates, root, &mut marks, &mut list);
-    if gain(inputs, gates, going, proposal, &mut marks, &mut list) == 0 {
-        return Applied::Refused(Refusal::NoGain);
+    mark_past(graph, root, &mut marks);
+    let going = going_with(graph, root, &mut marks, &mut list);
+    if gain(graph, going, proposal, &mut marks, &mut list) == 0 {
+        return Err(Refusal::NoGain);
     }
-    mark_kept(inputs, gates, root, proposal, &mut marks, &mut list);
-    store_finished(
-        inputs, gates, outputs, root, proposal, &marks, words, results,
-    )
+    let rewiring = Rewiring {
+        graph,
+        root,
+        proposal,
+    };
+    mark_kept(&rewiring, &mut marks, &mut list);
+    store_finished(&rewiring, &marks, words, results)
 }
 
 // Applies a proposal: the counts of the finished graph, whose words are then at the front of the lent lists; or why it is refused.
 pub fn apply(
-    inputs: usize,
-    gates: &[u32],
-    outputs: &[u32],
+    graph: &LentGraph,
     root: Var,
     leaves: Leaves,
     proposal: Proposal,
     words: &mut [u32],
     results: &mut [u32],
-) -> Applied
+) -> Result<Finished, Refusal>
     ensures { result leaving buffers_of words.new results.new
-        ≡ apply_effect (graph_of inputs gates.now outputs.now) root.0 leaves proposal
-        (buffers_of words.old results.old) }
+        ≡ apply_effect graph.now root.0 leaves proposal (buffers_of words.old results.old) }
 {
-    match proposal_verdict(inputs, gates, outputs, root, leaves, proposal) {
-        Verdict::Refused(refusal) => Applied::Refused(refusal),
-        Verdict::Fine => replace(inputs, gates, outputs, root, proposal, words, results),
-    }
+    proposal_verdict(graph, root, leaves, proposal)?;
+    replace(graph, root, proposal, words, results)
 }

@@ -1,26 +1,42 @@
-// What a gate becomes once the root is replaced.
-ghost use Rattle.std.specs.Prelude.{◌≡◌, ◌<◌, ◌^◌};
-ghost use Rattle.graph.specs.Graph.{net_of, first, second, WellFormedNet, IsGate};
-ghost use Rattle.replacement.specs.Rewire.{Wires, rewired_net};
+// What becomes of gates and literals once a proposal stands for a gate.
+ghost use Rattle.std.specs.Prelude.{◌≡◌};
+ghost use Rattle.graph.specs.Graph.{first, second, WellFormedNet, IsGate};
+ghost use Rattle.replacement.specs.Rewire.{Wires, Wires-prop, redirected, rewired_net};
 
-use graph::{Fanins, Var, fanins_of};
+use graph::{Fanins, LentGraph, Lit, Var};
 use replacement::Proposal;
 
-// What stands for v's gate.
-pub fn rewired_gate(inputs: usize, gates: &[u32], root: Var, proposal: Proposal, v: Var) -> Fanins
-    requires { WellFormedNet (net_of inputs gates.now) × IsGate (net_of inputs gates.now) v.0 × Wires root.0 proposal
-        × (root.0 < 2 ^ 30) }
-    ensures first_value { result.first.0 ≡ first (rewired_net (net_of inputs gates.now) root.0 proposal) v.0 }
-    ensures second_value { result.second.0 ≡ second (rewired_net (net_of inputs gates.now) root.0 proposal) v.0 }
-{
-    let gate = fanins_of(inputs, gates, v);
-    if v.0 != root.0 {
-        let first = proposal.redirected(root, gate.first);
-        let second = proposal.redirected(root, gate.second);
-        return Fanins::larger_first(first, second);
+// A gate of a well-formed net, and the proposal that is to stand for it.
+#[derive(Clone, Copy)]
+pub struct Rewiring<'a> {
+    pub graph: &'a LentGraph<'a>,
+    pub root: Var,
+    pub proposal: Proposal,
+    ghost net_ok: { WellFormedNet graph.now.net },
+    ghost gate: { IsGate graph.now.net root.0 },
+    ghost wires: { Wires root.0 proposal } by { Wires-prop root.0 proposal },
+}
+
+impl<'a> Rewiring<'a> {
+    pub fn redirected(&self, l: Lit) -> Lit
+        ensures { result.0 ≡ redirected self.now.root.0 self.now.proposal l.0 }
+    {
+        self.proposal.redirected(self.root, l)
     }
-    if proposal.kind == 0 {
-        return Fanins::larger_first(gate.first, gate.second);
+
+    // What stands for v's gate.
+    pub fn gate_of(&self, v: Var) -> Fanins
+        requires { IsGate self.now.graph.now.net v.0 }
+        ensures first_value { result.first.0 ≡ first (rewired_net self.now.graph.now.net self.now.root.0 self.now.proposal) v.0 }
+        ensures second_value { result.second.0 ≡ second (rewired_net self.now.graph.now.net self.now.root.0 self.now.proposal) v.0 }
+    {
+        let gate = self.graph.fanins_of(v);
+        if v != self.root {
+            return Fanins::larger_first(self.redirected(gate.first), self.redirected(gate.second));
+        }
+        if self.proposal.kind == 0 {
+            return Fanins::larger_first(gate.first, gate.second);
+        }
+        Fanins::larger_first(self.proposal.first, self.proposal.second)
     }
-    Fanins::larger_first(proposal.first, proposal.second)
 }

@@ -2,9 +2,9 @@
 // then all that was lent: words that were 9 before, bytes that were dots. `stdout` holds what must come out.
 #![tactic(auto)]
 
+use graph::LentGraph;
 use say::{say, say_number, say_refusal, say_words};
 use std::io;
-use text::{ReadText, WrittenText};
 
 fn reads_into(
     rt: &impl Print,
@@ -16,16 +16,12 @@ fn reads_into(
     say(rt, name)?;
     say(rt, b":")?;
     match reader::read(text, gates, outputs) {
-        ReadText::Refused(refusal) => say_refusal(rt, refusal)?,
-        ReadText::Graph {
-            inputs,
-            gates: gate_count,
-            outputs: output_count,
-        } => {
+        Err(refusal) => say_refusal(rt, refusal)?,
+        Ok(counts) => {
             say_number(rt, 0)?;
-            say_number(rt, inputs as u64)?;
-            say_number(rt, gate_count as u64)?;
-            say_number(rt, output_count as u64)?;
+            say_number(rt, counts.inputs as u64)?;
+            say_number(rt, counts.gates as u64)?;
+            say_number(rt, counts.outputs as u64)?;
         }
     }
     say_words(rt, gates)?;
@@ -103,8 +99,7 @@ fn read_rooms(rt: &impl Print) -> io::Result<()> {
 
 // The text of nothing, with a rest of `c` that fills what was lent.
 fn reads_filled(rt: &impl Print, name: &[u8], bytes: &mut [u8]) -> io::Result<()> {
-    let none = [0u32; 0];
-    writer::write(0, &none, &none, bytes);
+    let _ = writer::write(&LentGraph::new(0, &[], &[]), bytes);
     reads(rt, name, bytes)
 }
 
@@ -119,16 +114,14 @@ fn read_long(rt: &impl Print) -> io::Result<()> {
 fn writes_into(
     rt: &impl Print,
     name: &[u8],
-    inputs: usize,
-    gates: &[u32],
-    outputs: &[u32],
+    graph: &LentGraph,
     bytes: &mut [u8],
 ) -> io::Result<()> {
     say(rt, name)?;
     say(rt, b":")?;
-    match writer::write(inputs, gates, outputs, bytes) {
-        WrittenText::Refused(refusal) => say_refusal(rt, refusal)?,
-        WrittenText::Bytes(length) => {
+    match writer::write(graph, bytes) {
+        Err(refusal) => say_refusal(rt, refusal)?,
+        Ok(length) => {
             say_number(rt, 0)?;
             say_number(rt, length as u64)?;
         }
@@ -141,42 +134,36 @@ fn writes_into(
 fn writes(
     rt: &impl Print,
     name: &[u8],
-    inputs: usize,
-    gates: &[u32],
-    outputs: &[u32],
+    graph: &LentGraph,
 ) -> io::Result<()> {
     let mut bytes = [b'.'; 40];
-    writes_into(rt, name, inputs, gates, outputs, &mut bytes)
+    writes_into(rt, name, graph, &mut bytes)
 }
 
 // E1's text has 32 bytes.
 fn write_rooms(rt: &impl Print) -> io::Result<()> {
-    let e1 = [4u32, 2, 6, 2];
-    let out = [8u32];
-    writes(rt, b"E1 written", 2, &e1, &out)?;
+    let e1 = LentGraph::new(2, &[4, 2, 6, 2], &[8]);
+    writes(rt, b"E1 written", &e1)?;
     let mut short = [b'.'; 31];
-    writes_into(rt, b"one byte short", 2, &e1, &out, &mut short)?;
+    writes_into(rt, b"one byte short", &e1, &mut short)?;
     let mut exact = [b'.'; 32];
-    writes_into(rt, b"room just so", 2, &e1, &out, &mut exact)?;
+    writes_into(rt, b"room just so", &e1, &mut exact)?;
     let mut tiny = [b'.'; 1];
-    writes_into(rt, b"7 and 16", 65, &e1, &out, &mut tiny)
+    let many_inputs = LentGraph::new(65, &[4, 2, 6, 2], &[8]);
+    writes_into(rt, b"7 and 16", &many_inputs, &mut tiny)
 }
 
 fn write_bad_graphs(rt: &impl Print) -> io::Result<()> {
-    let none = [0u32; 0];
-    let own = [4u32];
-    let odd = [4u32, 2, 6];
-    writes(rt, b"odd length", 2, &odd, &own)?;
-    let smaller_first = [2u32, 3];
-    writes(rt, b"smaller first", 1, &smaller_first, &own)?;
-    writes(rt, b"65 inputs", 65, &none, &none)
+    writes(rt, b"odd length", &LentGraph::new(2, &[4, 2, 6], &[4]))?;
+    writes(rt, b"smaller first", &LentGraph::new(1, &[2, 3], &[4]))?;
+    writes(rt, b"65 inputs", &LentGraph::new(65, &[], &[]))
 }
 
 fn write_many_gates(rt: &impl Print) -> io::Result<()> {
-    let none = [0u32; 0];
     let gates = [0u32; 2050];
-    writes(rt, b"1,025 gates", 0, &gates, &none)?;
-    writes(rt, b"1,024 gates, no room", 0, &gates[..2048], &none)
+    writes(rt, b"1,025 gates", &LentGraph::new(0, &gates, &[]))?;
+    let most = LentGraph::new(0, &gates[..2048], &[]);
+    writes(rt, b"1,024 gates, no room", &most)
 }
 
 fn main(rt: HostRuntime) -> io::Result<()> {

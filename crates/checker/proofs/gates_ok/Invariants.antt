@@ -1,18 +1,13 @@
 -- What the loop keeps, and how far it has to go.
 use mathlib.Core.Path.{◌≡◌}
 use mathlib.Core.Bool.{Bool, true}
-use mathlib.Core.List.{List}
-use Prim.Native.Nat.{ℕ, suc, ◌+◌, ◌-◌, ◌/◌, ◌≤◌}
-use lib.ListN.{length}
+use Prim.Native.Nat.{ℕ, suc, ◌+◌}
 use Rattle.graph.specs.Lists.{all_below}
-use Rattle.graph.specs.Graph.{net_of, gate_ok}
+use Rattle.graph.specs.Graph.{Net, free, gate_ok}
 use Rattle.checker.proofs.gates_ok.Given as goal
 
-abbrev pub passes : ℕ → List ℕ → ℕ → Bool
-passes inputs gates = λ k. gate_ok (net_of inputs gates) (suc (inputs + k))
+abbrev pub passes : Net → ℕ → Bool
+passes net = λ k. gate_ok net (suc (free net + k))
 
 abbrev pub invariant-loop-k : goal.invariant-loop-k
-invariant-loop-k l = (l.k ≤ l.count) × (l.count ≡ length l.gates / 2) × (all_below (passes l.inputs l.gates) l.k ≡ true)
-
-abbrev pub decreases-loop-k : goal.decreases-loop-k
-decreases-loop-k l = l.count - l.k
+invariant-loop-k l = all_below (passes l.graph.net) l.k ≡ true

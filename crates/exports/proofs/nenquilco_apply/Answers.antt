@@ -7,16 +7,16 @@ use Rattle.exports.proofs.Exported.{answer_told}
 use Rattle.exports.proofs.nenquilco_apply.Goals as goal
 
 -- each arm: the call's answer, read over the leaves at the six places
-pub returns-in-Refused : goal.returns-in-Refused
+pub returns-in-Err : goal.returns-in-Err
 unfolding applied_outcome written
-returns-in-Refused c =
-    let q = c.in-Refused.is in
+returns-in-Err c =
+    let q = c.in-Err.is in
     let applied = rw c.leaves_at-leaves.ensures at c.apply.ensures in
     answer_told applied_outcome _ _ _ applied _ (c.number.ensures ∙ rw q) _ _ (rw q)
 
-pub returns-in-Graph : goal.returns-in-Graph
+pub returns-in-Ok : goal.returns-in-Ok
 unfolding applied_outcome written
-returns-in-Graph c =
-    let q = c.in-Graph.is in
+returns-in-Ok c =
+    let q = c.in-Ok.is in
     let applied = rw c.leaves_at-leaves.ensures at c.apply.ensures in
     answer_told applied_outcome _ _ _ applied _ (rw q) _ _ (rw q)

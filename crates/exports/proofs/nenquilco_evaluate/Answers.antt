@@ -6,14 +6,14 @@ use Rattle.graph.specs.Evaluate.{evaluated_outcome}
 use Rattle.exports.proofs.Exported.{answer_told}
 use Rattle.exports.proofs.nenquilco_evaluate.Goals as goal
 
-pub returns-in-Refused : goal.returns-in-Refused
+pub returns-in-Err : goal.returns-in-Err
 unfolding evaluated_outcome written
-returns-in-Refused c =
-    let q = c.in-Refused.is in
+returns-in-Err c =
+    let q = c.in-Err.is in
     answer_told evaluated_outcome _ _ _ c.evaluate.ensures _ (c.number.ensures ∙ rw q) _ _ (rw q)
 
-pub returns-in-Outputs : goal.returns-in-Outputs
+pub returns-in-Ok : goal.returns-in-Ok
 unfolding evaluated_outcome written
-returns-in-Outputs c =
-    let q = c.in-Outputs.is in
+returns-in-Ok c =
+    let q = c.in-Ok.is in
     answer_told evaluated_outcome _ _ _ c.evaluate.ensures _ (rw q) _ _ (rw q)

@@ -8,7 +8,6 @@ use borrow.Author.Rules.{rules}
 use lib.ListN.{length, get_or}
 use Rattle.graph.specs.declared.lit.Var.{Var}
 use Rattle.graph.specs.Lent.{written}
-use Rattle.graph.specs.Refuse.{verdict_outcome}
 use Rattle.window.specs.Leaves.{numbers}
 use Rattle.window.specs.Calls.{pick_outcome}
 use Rattle.window.proofs.Along.{length_held}
@@ -31,16 +30,16 @@ six_places (a ∷ b ∷ c ∷ d ∷ []) h = absurd (omega arith)
 six_places (a ∷ b ∷ c ∷ d ∷ e ∷ []) h = absurd (omega arith)
 six_places (a ∷ b ∷ c ∷ d ∷ e ∷ f ∷ g ∷ vs) h = absurd (omega arith)
 
-pub returns-in-Refused : goal.returns-in-Refused
-unfolding pick_outcome verdict_outcome written
-returns-in-Refused c =
-    let q = c.in-Refused.is in
+pub returns-in-Err : goal.returns-in-Err
+unfolding pick_outcome written
+returns-in-Err c =
+    let q = c.in-Err.is in
     value_told pick_outcome _ _ c.pick-picked.ensures _ (c.number.ensures ∙ rw q) _ _ (rw q)
 
-pub returns-in-Fine : goal.returns-in-Fine
-unfolding pick_outcome verdict_outcome written
-returns-in-Fine c =
-    let q = c.in-Fine.is in
+pub returns-in-Ok : goal.returns-in-Ok
+unfolding pick_outcome written
+returns-in-Ok c =
+    let q = c.in-Ok.is in
     let leaves = c.pick-picked.result.leaves in
     let six : length leaves.places ≡ 6 = search (rules, length_held) in
     value_told pick_outcome _ _ c.pick-picked.ensures _ (rw q) _ _ (rw (q, six_places leaves.places six))

@@ -6,14 +6,14 @@ use Rattle.text.specs.Calls.{read_outcome}
 use Rattle.exports.proofs.Exported.{answer_told}
 use Rattle.exports.proofs.nenquilco_read.Goals as goal
 
-pub returns-in-Refused : goal.returns-in-Refused
+pub returns-in-Err : goal.returns-in-Err
 unfolding read_outcome written
-returns-in-Refused c =
-    let q = c.in-Refused.is in
+returns-in-Err c =
+    let q = c.in-Err.is in
     answer_told read_outcome _ _ _ c.read.ensures _ (c.number.ensures ∙ rw q) _ _ (rw q)
 
-pub returns-in-Graph : goal.returns-in-Graph
+pub returns-in-Ok : goal.returns-in-Ok
 unfolding read_outcome written
-returns-in-Graph c =
-    let q = c.in-Graph.is in
+returns-in-Ok c =
+    let q = c.in-Ok.is in
     answer_told read_outcome _ _ _ c.read.ensures _ (rw q) _ _ (rw q)

@@ -6,14 +6,14 @@ use Rattle.text.specs.Calls.{written_outcome}
 use Rattle.exports.proofs.Exported.{answer_told}
 use Rattle.exports.proofs.nenquilco_write.Goals as goal
 
-pub returns-in-Refused : goal.returns-in-Refused
+pub returns-in-Err : goal.returns-in-Err
 unfolding written_outcome written
-returns-in-Refused c =
-    let q = c.in-Refused.is in
+returns-in-Err c =
+    let q = c.in-Err.is in
     answer_told written_outcome _ _ _ c.write.ensures _ (c.number.ensures ∙ rw q) _ _ (rw q)
 
-pub returns-in-Bytes : goal.returns-in-Bytes
+pub returns-in-Ok : goal.returns-in-Ok
 unfolding written_outcome written
-returns-in-Bytes c =
-    let q = c.in-Bytes.is in
+returns-in-Ok c =
+    let q = c.in-Ok.is in
     answer_told written_outcome _ _ _ c.write.ensures _ (rw q) _ _ (rw q)

@@ -3,9 +3,7 @@
 use mathlib.Core.Path.{◌≡◌, refl}
 use Prim.Native.Nat.{◌+◌}
 use native.Mathlib.Omega.{arith}
-use borrow.Author.Rules.{rules}
 use mir.Val.{bool_byte}
-use Rattle.graph.specs.Graph.{net_of}
 use Rattle.graph.specs.Use.{count_marks}
 use Rattle.checker.specs.Marks.{marks_in}
 use Rattle.graph.proofs.Renumber.{count_most}
@@ -15,17 +13,17 @@ use Rattle.checker.proofs.usage.count_marks.Goals.{After-has_mark}
 
 -- one gate more is counted
 more : (c : After-has_mark) → c.loop-k.found + bool_byte c.has_mark.result
-    ≡ count_marks (net_of c.args.inputs c.args.gates.now) (marks_in c.args.marks.now) (c.loop-k.k + 1)
-more c = rw (c.has_mark.ensures, c.loop-k.invariant.2) (count_more _ _ _)
+    ≡ count_marks c.args.graph.now.net (marks_in c.args.marks.now) (c.loop-k.k + 1)
+more c = rw (c.has_mark.ensures, c.inputs.ensures, c.loop-k.invariant) (count_more _ _ _)
 
 pub loop-k-init : goal.loop-k-init
 unfolding count_marks
-loop-k-init c = (search rules, search rules, refl)
+loop-k-init c = refl
 
 pub overflow_add-found : goal.overflow_add-found
 overflow_add-found c =
-    let few = count_most (net_of c.args.inputs c.args.gates.now) (marks_in c.args.marks.now) (c.loop-k.k + 1) in
+    let few = count_most c.args.graph.now.net (marks_in c.args.marks.now) (c.loop-k.k + 1) in
     omega (arith, more (goal.at.overflow_add-found c).After-has_mark)
 
 pub loop-k-preserved : goal.loop-k-preserved
-loop-k-preserved c = (search rules, search rules, more (goal.at.loop-k-preserved c).After-has_mark)
+loop-k-preserved c = more (goal.at.loop-k-preserved c).After-has_mark

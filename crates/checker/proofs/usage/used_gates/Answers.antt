@@ -5,7 +5,6 @@ use mathlib.Core.Bool.{false}
 use Prim.Native.Nat.{ℕ}
 use native.Mathlib.Omega.{arith}
 use lib.ListN.{replicate}
-use Rattle.graph.specs.Graph.{graph_of}
 use Rattle.graph.specs.Use.{marks_over}
 use Rattle.graph.proofs.Graph.{net_well_formed}
 use Rattle.checker.proofs.Marking.{marks_length, fresh_marks, fresh_long, most_variables, marks_counted}
@@ -21,11 +20,9 @@ mark_used-requires c =
 
 pub count_marks-requires : goal.count_marks-requires
 count_marks-requires c =
-    let graph = graph_of c.args.inputs c.args.gates.now c.args.outputs.now in
-    (net_well_formed graph c.requires, omega (arith, marks_length c.mark_used.new.marks))
+    (net_well_formed c.args.graph.now c.requires, omega (arith, marks_length c.mark_used.new.marks))
 
 pub returns : goal.returns
 returns c =
-    let graph = graph_of c.args.inputs c.args.gates.now c.args.outputs.now in
-    let marked = c.mark_used.ensures ∙ ap (λ (n : ℕ). marks_over n graph) (fresh_long most_variables) in
-    c.count_marks.ensures ∙ marks_counted graph c.requires.lawful most_variables (omega arith) marked
+    let marked = c.mark_used.ensures ∙ ap (λ (n : ℕ). marks_over n c.args.graph.now) (fresh_long most_variables) in
+    c.count_marks.ensures ∙ marks_counted c.args.graph.now c.requires.lawful most_variables (omega arith) marked

@@ -14,5 +14,5 @@ returns-then-has_mark c = sym (held_marked _ _ _ (sym c.has_mark.ensures ∙ c.i
 
 pub returns : goal.returns
 returns c =
-    rw (c.set_mark.ensures, add-one c.args.count)
+    rw (c.put_mark.ensures, add-one c.args.count)
     (sym (held_new _ _ _ (omega arith) (sym c.has_mark.ensures ∙ c.if-has_mark.false)))

@@ -21,7 +21,7 @@ mark_new-count-requires c = (
 
 pub loop-done-init : goal.loop-done-init
 loop-done-init c =
-    let net = net_of c.args.inputs c.args.gates.now in
+    let net = c.args.graph.now.net in
     stage_start net c.args.first.0 c.args.second.0 (marks_in c.args.marks.now) c.requires.walkable.1 c.requires.first_bound.0
     c.requires.first_bound.1 c.args.list.now (omega arith)
     (two_held _ _ c.mark_new-with_first.ensures c.mark_new-count.ensures c.var.ensures c.var-2.ensures)
@@ -43,7 +43,7 @@ loop-done-smaller c = omega (arith, listed_most c.loop-done.invariant.listing)
 -- once the fanins of one more are held the walk is one further on
 pub loop-done-preserved : goal.loop-done-preserved
 loop-done-preserved c =
-    let net = net_of c.args.inputs c.args.gates.now in
+    let net = c.args.graph.now.net in
     let literals = c.args.first.0 ∷ c.args.second.0 ∷ [] in
     let walked = walked_to (marks_in c.loop-done.marks) c.loop-done.list c.loop-done.count in
     let so_far = c.loop-done.invariant in
@@ -52,7 +52,7 @@ loop-done-preserved c =
 
 pub returns : goal.returns
 returns c =
-    let net = net_of c.args.inputs c.args.gates.now in
+    let net = c.args.graph.now.net in
     let literals = c.args.first.0 ∷ c.args.second.0 ∷ [] in
     let given = marks_in c.args.marks.now in
     let walked = walked_to (marks_in c.loop-done.marks) c.loop-done.list c.loop-done.count in

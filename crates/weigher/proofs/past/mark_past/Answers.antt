@@ -12,18 +12,18 @@ use Rattle.weigher.proofs.past.mark_past.Goals as goal
 -- each pass leaves as many marks as there were
 pub mark_after-requires : goal.mark_after-requires
 mark_after-requires c = (
-  net_well_formed (graph_of c.args.inputs c.args.gates.now c.args.outputs.now) c.requires.well_formed.0,
+  net_well_formed c.args.graph.now c.requires.well_formed.0,
   omega (arith, c.at.ensures, c.requires.well_formed.1.within),
   omega arith,
   grind (arith, each_length),
 )
 
-pub clear_mark-requires : goal.clear_mark-requires
-clear_mark-requires c = grind (arith, each_length, after_length)
+pub put_mark-requires : goal.put_mark-requires
+put_mark-requires c = grind (arith, each_length, after_length)
 
 pub mark_after-requires-2 : goal.mark_after-requires-2
 mark_after-requires-2 c = (
-  net_well_formed (graph_of c.args.inputs c.args.gates.now c.args.outputs.now) c.requires.well_formed.0,
+  net_well_formed c.args.graph.now c.requires.well_formed.0,
   omega arith,
   omega (arith, c.at.ensures, c.requires.well_formed.1.within),
   grind (arith, each_length, after_length, length-set),
@@ -31,7 +31,7 @@ mark_after-requires-2 c = (
 
 pub returns : goal.returns
 returns c =
-    let graph = graph_of c.args.inputs c.args.gates.now c.args.outputs.now in
+    let graph = c.args.graph.now in
     past_root graph c.requires.well_formed.0.lawful c.args.root.0 c.requires.well_formed.1 (length (marks_in c.args.marks.now))
-    c.requires.well_formed.2 c.at.ensures c.requires.marks_value c.mark_each.ensures c.mark_after.ensures c.clear_mark.ensures
+    c.requires.well_formed.2 c.at.ensures c.requires.marks_value c.mark_each.ensures c.mark_after.ensures c.put_mark.ensures
     c.mark_after-2.ensures
