@@ -1,7 +1,6 @@
 pub mod Walk
+pub mod Tokens
+pub mod Lines
 pub mod ReaderAnswers
 pub mod Thin
 pub mod Asked
-pub mod Tokens
-pub mod Lines
-pub mod LineWalk

@@ -1,35 +1,24 @@
--- What the walked functions answer: a number that stands at a place, or a byte that must stand there.
+-- What a walked function answers: the number that stands at a place, if one does.
 -- Assumes nothing.
 use mathlib.Core.Path.{◌≡◌}
-use mathlib.Core.List.{[], ◌∷◌}
-use Prim.Native.Nat.{ℕ}
 use lib.ListN.{drop}
-use denote.Struct.Laws as LL
+use denote.Memory.{lone}
+use denote.Enum.Laws as EL
+use denote.Enum.Loose.{loose_lawful}
 use Rattle.text.specs.Number.{number}
-use Rattle.text.specs.Line.{after}
-use Rattle.scanner.specs.Tokens.{number_step, byte_step}
-use Rattle.scanner.specs.contracts.number.NumberStep as N
-use Rattle.scanner.proofs.number.NumberStep.TheLaws as N'
-use Rattle.scanner.specs.contracts.bytes.ByteStep as B
-use Rattle.scanner.proofs.bytes.ByteStep.TheLaws as B'
+use Rattle.scanner.specs.Tokens.{number_step}
+use Rattle.std.specs.contracts.option.Option as O
+use Rattle.std.proofs.option.Option.TheLaws as O'
+use Rattle.scanner.specs.contracts.number.NumberAt as N
+use Rattle.scanner.proofs.number.NumberAt.TheLaws as N'
 use Rattle.scanner.proofs.Walk.{Answer}
 
 abbrev pub a_number : Answer
 a_number = record {
-  row = N.the_row;
-  mir = N'.mir;
-  typed = λ 𝓛 r v is. ((LL.lawful N.the_type N'.the_laws 𝓛).typed r _ is).0;
-  lowered = N'.lowered;
-  tells = LL.tells N.the_type N'.the_laws;
+  row = O.the_row N.the_row;
+  mir = lone (O.the_row N.the_row).mir;
+  typed = λ 𝓛 r v is. ((loose_lawful (O.the_type N.the_row) (O'.the_loose N.the_row N'.the_row_laws) tt 𝓛).typed r _ is).0;
+  lowered = EL.val (O.the_type N.the_row) (O'.the_laws N.the_row N'.the_row_laws N'.the_told);
+  tells = EL.tells (O.the_type N.the_row) (O'.the_laws N.the_row N'.the_row_laws N'.the_told);
   right = λ t at r. number_step t r ≡ number (drop at t);
-}
-
-abbrev pub the_byte : ℕ → Answer
-the_byte b = record {
-  row = B.the_row;
-  mir = B'.mir;
-  typed = λ 𝓛 r v is. ((LL.lawful B.the_type B'.the_laws 𝓛).typed r _ is).0;
-  lowered = B'.lowered;
-  tells = LL.tells B.the_type B'.the_laws;
-  right = λ t at r. byte_step t r ≡ after (b ∷ []) (drop at t);
 }

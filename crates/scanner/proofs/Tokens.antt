@@ -1,23 +1,21 @@
--- Numbers and bytes. A run of digits is read digit by digit: what each digit does to the value of a run, and how a run ends.
--- Bytes are read one after the other: each is there, or the reading stops.
+-- Numbers. A run of digits is read digit by digit: what each digit does to the value of a run, and how a run ends.
 -- Assumes nothing.
-use mathlib.Core.Path.{◌≡◌, refl, sym, ap, ◌∙◌}
+use mathlib.Core.Path.{◌≡◌, refl, sym, ap, subst, ◌∙◌}
 use mathlib.Core.Bool.{Bool, true, false, cond}
 use mathlib.Core.List.{List, [], ◌∷◌}
 use mathlib.Core.Logic.{◌⊎◌, inl, inr, ⊎_elim}
 use mathlib.Core.Option.{Option, none, some}
+use Rattle.std.specs.Prelude.{Some, None}
 use Prim.Native.Nat.{ℕ, ◌+◌, ◌-◌, ◌*◌, ◌≤◌, ◌<◌}
 use native.Mathlib.Nat.{le_refl}
 use native.Mathlib.Omega.{arith}
-use borrow.Author.Tests.{ltb-true, ne_eqb, le-leb, lt-leb, lt-ltb}
-use lib.Dec.{leb, ltb, eqb}
+use borrow.Author.Tests.{ne_eqb, le-leb, lt-leb, lt-ltb}
+use lib.Dec.{leb, ltb}
 use lib.ListN.{length, drop, length-drop}
 use lib.Seq.{drop-drop}
-use Rattle.graph.proofs.Lists.{true_or_false, same_tests}
-use Rattle.scanner.specs.declared.bytes.ByteStep.{ByteStep}
+use Rattle.graph.proofs.Lists.{true_or_false}
 use Rattle.text.specs.Number.{digit, is_digit, Front, front, digit_run, value_from, no_leading_zero, most_number, is_number, number}
-use Rattle.text.specs.Line.{◌>>=◌, after}
-use Rattle.scanner.specs.Tokens.{byte_step, digit_at, number_step, run_value}
+use Rattle.scanner.specs.Tokens.{digit_at, run_value}
 use Rattle.text.proofs.Number.{digit_least, digit_most}
 
 -- the digits at the front of a text, and the text that follows them
@@ -29,41 +27,47 @@ rest t = (digit_run t).rest
 
 -- ---- a text starts with a digit, which its run takes, or its run is over
 
-record Taken (t : List ℕ) : Type 0 where
-  small : digit_at t < 10
+record Taken (t : List ℕ) (d : ℕ) : Type 0 where
+  is : digit_at t ≡ Some d
+  small : d < 10
   there : 0 < length t
-  runs : {bs u : List ℕ} → digit_run (drop 1 t) ≡ front bs u → digit_run t ≡ front (digit (digit_at t) ∷ bs) u
+  runs : {bs u : List ℕ} → digit_run (drop 1 t) ≡ front bs u → digit_run t ≡ front (digit d ∷ bs) u
 
 record Over (t : List ℕ) : Type 0 where
-  none_there : digit_at t ≡ 10
+  none_there : digit_at t ≡ None
   runs : digit_run t ≡ front [] t
 
-first : (t : List ℕ) → Taken t ⊎ Over t
+first : (t : List ℕ) → ((d : ℕ) × Taken t d) ⊎ Over t
 unfolding digit_at digit_run
 first [] = inr (record { none_there = refl; runs = refl })
 first (b ∷ t) = ⊎_elim
     (λ (e : is_digit b ≡ true).
     let l = digit_least b e in
     let m = digit_most b e in
-    let d : digit_at (b ∷ t) ≡ b - 48 = rw e in
-    let s : digit (digit_at (b ∷ t)) ≡ b = omega arith in
-    inl
-    (record {
-      small = omega arith;
-      there = omega arith;
-      runs = λ q. rw s (rw (e, digit_run) (ap (λ (r : Front (List ℕ)). front (b ∷ r.got) r.rest) q));
-    }))
+    let s : digit (b - 48) ≡ b = omega arith in
+    inl (
+      b - 48,
+      record {
+        is = rw e;
+        small = omega arith;
+        there = omega arith;
+        runs = λ q. rw s (rw (e, digit_run) (ap (λ (r : Front (List ℕ)). front (b ∷ r.got) r.rest) q));
+      },
+    ))
     (λ (e : is_digit b ≡ false). inr (record { none_there = rw e; runs = rw (e, digit_run) }))
     (true_or_false (is_digit b))
 
-taken : (t : List ℕ) → digit_at t < 10 → Taken t
-taken t h = ⊎_elim (λ x. x) (λ (o : Over t). absurd (omega arith)) (first t)
+taken : (t : List ℕ) (d : ℕ) → Some d ≡ digit_at t → Taken t d
+taken t d h = ⊎_elim
+    (λ (x : (e : ℕ) × Taken t e). let same : x.0 ≡ d = (cc (x.1.is)) in subst (Taken t) same x.1)
+    (λ (o : Over t). cc (o.none_there))
+    (first t)
 
-over : (t : List ℕ) → 10 ≤ digit_at t → Over t
-over t h = ⊎_elim (λ (x : Taken t). absurd (omega arith)) (λ o. o) (first t)
+over : (t : List ℕ) → None ≡ digit_at t → Over t
+over t h = ⊎_elim (λ (x : (e : ℕ) × Taken t e). cc (x.1.is)) (λ o. o) (first t)
 
-pub digit_within : (t : List ℕ) (n : ℕ) → digit_at (drop n t) < 10 → n < length t
-digit_within t n h = omega (arith, (taken (drop n t) h).there, length-drop n t)
+pub digit_within : (t : List ℕ) (n d : ℕ) → Some d ≡ digit_at (drop n t) → n < length t
+digit_within t n d h = omega (arith, (taken (drop n t) d h).there, length-drop n t)
 
 -- ---- the value of a run
 
@@ -78,6 +82,10 @@ unfolding run_value
 run_value_is t {bs = []} e = rw (e, run_value)
 run_value_is t {bs = b ∷ bs} e = rw (e, lt-ltb 0 (length (b ∷ bs)) (omega arith), run_value) (rw e)
 
+no_digits : (b : Bool) → cond {A = Option (Front ℕ)} b none none ≡ none
+no_digits true = refl
+no_digits false = refl
+
 -- ---- digits that were read
 
 -- the digits from the place `at` to the place `next` were read, and have this value: the run at `next` is what is left of the run at `at`
@@ -91,39 +99,48 @@ module _ (t : List ℕ) (at : ℕ) where
   passed_none = record { count = refl; same = refl; follows = refl }
 
   module _ (next value : ℕ) (p : RunTo t at next value) where
-    pub passed_more : (d : ℕ) → d ≡ digit_at (drop next t) → d < 10 → RunTo t at (next + 1) (10 * value + d)
+    pub passed_more : (d : ℕ) → Some d ≡ digit_at (drop next t) → RunTo t at (next + 1) (value * 10 + d)
     unfolding value_from
-    passed_more d q h =
+    passed_more d q =
         let u = drop (next + 1) t in
         let e : digit_run (drop next t) ≡ front (digit d ∷ run u) (rest u) =
-        rw (q, ← drop-drop 1 next t) ((taken (drop next t) (omega arith)).runs refl) in
+        rw (← drop-drop 1 next t) ((taken (drop next t) d q).runs refl) in
         record {
           count = omega (arith, ap (λ (r : Front (List ℕ)). length r.got) e);
           same =
               p.same
               ∙ ap (λ (r : Front (List ℕ)). value_from value r.got) e
-              ∙ ap (λ (x : ℕ). value_from (10 * value + x) (run u)) (omega arith);
+              ∙ ap (λ (x : ℕ). value_from x (run u)) (omega arith);
           follows = p.follows ∙ ap (λ (r : Front (List ℕ)). r.rest) e;
         }
 
     -- a value past the limit stays past it
-    pub passed_limit : most_number < value → run_value (drop at t) ≡ none
-    passed_limit h =
-        run_value_is (drop at t) refl
-        ∙ rw (lt-leb (value_from 0 (run (drop at t))) most_number (omega (arith, value_grows value (run (drop next t)))))
+    pub passed_limit : (d : ℕ) → Some d ≡ digit_at (drop next t) → most_number < value * 10 + d → none ≡ run_value (drop at t)
+    passed_limit d q h =
+        let m = passed_more d q in
+        let r = run (drop at t) in
+        let past : most_number < value_from 0 r = omega (arith, m.same, value_grows (value * 10 + d) (run (drop (next + 1) t))) in
+        sym (run_value_is (drop at t) refl ∙ rw (lt-leb (value_from 0 r) most_number past))
 
-    pub passed_all : 10 ≤ digit_at (drop next t) → value ≤ most_number
-        → cond (ltb at next) (some (front value (drop next t))) none ≡ run_value (drop at t)
-    unfolding value_from
-    passed_all h l =
-        let e = (over (drop next t) h).runs in
-        let v : value_from 0 (run (drop at t)) ≡ value = p.same ∙ ap (λ (r : Front (List ℕ)). value_from value r.got) e in
-        let f : rest (drop at t) ≡ drop next t = p.follows ∙ ap (λ (r : Front (List ℕ)). r.rest) e in
-        let n : length (run (drop next t)) ≡ 0 = ap (λ (r : Front (List ℕ)). length r.got) e in
-        let s : ltb 0 (length (run (drop at t))) ≡ ltb at next = same_tests _ _
-        (λ x. lt-ltb at next (omega (arith, ltb-true 0 (length (run (drop at t))) x)))
-        (λ x. lt-ltb 0 (length (run (drop at t))) (omega (arith, ltb-true at next x))) in
-        sym (run_value_is (drop at t) refl ∙ rw (v, f, le-leb value most_number l, s))
+    module _ (over_here : None ≡ digit_at (drop next t)) where
+      ended : digit_run (drop next t) ≡ front [] (drop next t)
+      ended = (over (drop next t) over_here).runs
+
+      took : at + length (run (drop at t)) ≡ next
+      took = omega (arith, p.count, ap (λ (r : Front (List ℕ)). length r.got) ended)
+
+      pub passed_all : value ≤ most_number → at < next → some (front value (drop next t)) ≡ run_value (drop at t)
+      unfolding value_from
+      passed_all l h =
+          let v : value_from 0 (run (drop at t)) ≡ value = p.same ∙ ap (λ (r : Front (List ℕ)). value_from value r.got) ended in
+          let f : rest (drop at t) ≡ drop next t = p.follows ∙ ap (λ (r : Front (List ℕ)). r.rest) ended in
+          let s = lt-ltb 0 (length (run (drop at t))) (omega (arith, took)) in
+          sym (run_value_is (drop at t) refl ∙ rw (v, f, le-leb value most_number l, s))
+
+      pub passed_nothing : next ≤ at → none ≡ run_value (drop at t)
+      passed_nothing h =
+          let n : length (run (drop at t)) ≡ 0 = omega (arith, took) in
+          sym (run_value_is (drop at t) refl ∙ rw n (no_digits (leb (value_from 0 (run (drop at t))) most_number)))
 
 -- ---- the number at the front: a zero stands alone
 
@@ -131,63 +148,37 @@ number_is : (t : List ℕ) {bs u : List ℕ} → digit_run t ≡ front bs u → 
 unfolding number
 number_is t e = rw (e, number)
 
-pub zero_alone : (t : List ℕ) → digit_at t ≡ 0 → cond (eqb (digit_at (drop 1 t)) 10) (some (front 0 (drop 1 t))) none ≡ number t
+pub zero_alone : (t : List ℕ) (at d : ℕ) → Some d ≡ digit_at (drop at t) → d ≡ 0 → None ≡ digit_at (drop (at + 1) t)
+    → some (front 0 (drop (at + 1) t)) ≡ number (drop at t)
 unfolding is_number no_leading_zero value_from
-zero_alone t h =
-    let z = taken t (omega arith) in
-    ⊎_elim
-    (λ (x : Taken (drop 1 t)).
-    rw (number_is t (rw h at (z.runs (x.runs refl))), ne_eqb (digit_at (drop 1 t)) 10 (λ e. absurd (omega arith))))
-    (λ (o : Over (drop 1 t)). rw (number_is t (rw h at (z.runs o.runs)), o.none_there))
-    (first (drop 1 t))
+zero_alone t at d h z n =
+    let u = drop (at + 1) t in
+    let r : digit_run (drop 1 (drop at t)) ≡ front [] u = rw (drop-drop 1 at t) (over u n).runs in
+    sym (rw (number_is (drop at t) ((taken (drop at t) d h).runs r), z))
 
--- the same at a place: the digit behind the zero says whether a number stands there
-pub zero_stands : (t : List ℕ) (at d : ℕ) → digit_at (drop at t) ≡ 0 → d ≡ digit_at (drop (at + 1) t)
-    → number_step t (record { found = eqb d 10; value = 0; next = at + 1 }) ≡ number (drop at t)
-unfolding number_step
-zero_stands t at d z e = rw e (rw drop-drop at (zero_alone (drop at t) z))
+pub zero_leads : (t : List ℕ) (at d c : ℕ) → Some d ≡ digit_at (drop at t) → d ≡ 0 → Some c ≡ digit_at (drop (at + 1) t)
+    → none ≡ number (drop at t)
+unfolding is_number no_leading_zero value_from
+zero_leads t at d c h z n =
+    let u = drop (at + 1) t in
+    let r : digit_run (drop 1 (drop at t)) ≡ front (digit c ∷ run (drop 1 u)) (rest (drop 1 u)) =
+    rw (drop-drop 1 at t) ((taken u c n).runs refl) in
+    sym (rw (number_is (drop at t) ((taken (drop at t) d h).runs r), z))
 
 leads : (b : ℕ) (bs : List ℕ) → ¬ (b ≡ digit 0) → no_leading_zero (b ∷ bs) ≡ true
 unfolding no_leading_zero
 leads b [] h = refl
 leads b (c ∷ bs) h = rw (ne_eqb b (digit 0) h)
 
-pub run_is_number : (t : List ℕ) → ¬ (digit_at t ≡ 0) → run_value t ≡ number t
+pub run_is_number : (t : List ℕ) → ¬ (digit_at t ≡ Some 0) → run_value t ≡ number t
 unfolding is_number
 run_is_number t h = ⊎_elim
-    (λ (x : Taken t).
-    let e = x.runs refl in
-    let b = digit (digit_at t) in
+    (λ (x : (d : ℕ) × Taken t d).
+    let e = x.1.runs refl in
+    let b = digit x.0 in
     let bs = run (drop 1 t) in
     let one = lt-ltb 0 (length (b ∷ bs)) (omega arith) in
-    rw (run_value_is t e, number_is t e, one, leads b bs (λ q. absurd (h (omega arith)))))
+    let other : ¬ (x.0 ≡ 0) = λ q. h (x.1.is ∙ ap Some q) in
+    rw (run_value_is t e, number_is t e, one, leads b bs (λ q. other (omega arith))))
     (λ (o : Over t). rw (run_value_is t o.runs, number_is t o.runs))
     (first t)
-
--- ---- bytes, one after the other
-
--- something that was found or not, and a step from it
-found_bind : {A B : Type 0} (f : Bool) (x : A) (k : A → Option B) → (cond f (some x) none >>= k) ≡ cond f (k x) none
-found_bind true x k = refl
-found_bind false x k = refl
-
-after_more : (b c : ℕ) (bs t : List ℕ) → after (b ∷ c ∷ bs) t ≡ (after (b ∷ []) t >>= after (c ∷ bs))
-unfolding after
-after_more b c bs [] = refl
-after_more b c bs (x ∷ t) = by_test (eqb b x)
-  where
-    by_test : (e : Bool) → cond e (after (c ∷ bs) t) none ≡ (cond e (some t) none >>= after (c ∷ bs))
-    by_test e = sym (found_bind e t (after (c ∷ bs)))
-
-module _ (t u : List ℕ) (s : ByteStep) (b c : ℕ) (bs : List ℕ) (is : byte_step t s ≡ after (b ∷ []) u) where
-  pub bytes_stop : s.found ≡ false → after (b ∷ c ∷ bs) u ≡ none
-  unfolding byte_step
-  bytes_stop e = after_more b c bs u ∙ rw (sym is, e)
-
-  pub bytes_go_on : s.found ≡ true → after (b ∷ c ∷ bs) u ≡ after (c ∷ bs) (drop s.next t)
-  unfolding byte_step
-  bytes_go_on e = after_more b c bs u ∙ rw (sym is, e)
-
-pub no_byte_found : (t : List ℕ) (s : ByteStep) → s.found ≡ false → byte_step t s ≡ none
-unfolding byte_step
-no_byte_found t s e = rw e

@@ -1,15 +1,15 @@
 -- Lines that the code finds at a place, and why one is refused.
 -- Assumes nothing.
-use Rattle.std.specs.Prelude.{ℕ, Bool, cond, List, drop}
+use Rattle.std.specs.Prelude.{ℕ, Bool, cond, List, drop, Option as Found, Some, None}
 use Rattle.std.proofs.Math.Option.{Option, none, some}
 use Rattle.graph.specs.declared.refusal.Refusal.{Refusal}
 use Rattle.graph.specs.declared.refusal.Refusal.TheVariants.{BadLine, BadLiteral}
-use Rattle.scanner.specs.declared.line.LineStep.{LineStep}
 use Rattle.text.specs.Number.{Front, front}
 
 -- a line's numbers, where these are what is lent at the end
-unfoldable pub line_step : List ℕ → List ℕ → LineStep → Option (Front (List ℕ))
-line_step t ns s = cond s.found (some (front ns (drop s.next t))) none
+unfoldable pub line_step : List ℕ → List ℕ → Found ℕ → Option (Front (List ℕ))
+line_step t ns None = none
+line_step t ns (Some next) = some (front ns (drop next t))
 
 -- why a line is refused: it is misshapen, or it breaks its rule
 unfoldable pub line_refusal : Bool → Bool → Option Refusal

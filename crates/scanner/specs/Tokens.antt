@@ -1,25 +1,26 @@
 -- Numbers and bytes that the code finds at a place: a place in a lent text stands for the text from there on.
 -- Assumes nothing.
-use Rattle.std.specs.Prelude.{ℕ, ◌-◌, cond, List, [], ◌∷◌, leb, drop}
+use Rattle.std.specs.Prelude.{ℕ, ◌-◌, cond, List, [], ◌∷◌, leb, drop, Option as Found, Some, None}
 use Rattle.std.proofs.Math.Option.{Option, none, some}
-use Rattle.scanner.specs.declared.bytes.ByteStep.{ByteStep}
-use Rattle.scanner.specs.declared.number.NumberStep.{NumberStep}
+use Rattle.scanner.specs.declared.number.NumberAt.{NumberAt}
 use Rattle.text.specs.Number.{is_digit, digit_run, value_from, most_number, Front, front}
 
 -- ---- steps: what is found at a place, and the text from the next place on
 
-unfoldable pub number_step : List ℕ → NumberStep → Option (Front ℕ)
-number_step t s = cond s.found (some (front s.value (drop s.next t))) none
+unfoldable pub number_step : List ℕ → Found NumberAt → Option (Front ℕ)
+number_step t None = none
+number_step t (Some s) = some (front s.value (drop s.next t))
 
-unfoldable pub byte_step : List ℕ → ByteStep → Option (List ℕ)
-byte_step t s = cond s.found (some (drop s.next t)) none
+unfoldable pub byte_step : List ℕ → Found ℕ → Option (List ℕ)
+byte_step t None = none
+byte_step t (Some next) = some (drop next t)
 
 -- ---- pieces of a number
 
--- the digit at the front of a text; 10 where there is none
-unfoldable pub digit_at : List ℕ → ℕ
-digit_at [] = 10
-digit_at (b ∷ t) = cond (is_digit b) (b - 48) 10
+-- the digit at the front of a text, if one stands there
+unfoldable pub digit_at : List ℕ → Found ℕ
+digit_at [] = None
+digit_at (b ∷ t) = cond (is_digit b) (Some (b - 48)) None
 
 -- the value of the digits at the front of a text, whatever the first one is
 unfoldable pub run_value : List ℕ → Option (Front ℕ)

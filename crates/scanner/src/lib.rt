@@ -6,5 +6,5 @@ mod line;
 mod number;
 mod text_reader;
 
-pub use bytes::{ByteStep, byte_at, rest_is_skipped};
-pub use line::{LineStep, line_of, line_verdict};
+pub use bytes::{byte_at, rest_is_skipped};
+pub use line::{line_of, line_verdict};

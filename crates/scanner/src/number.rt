@@ -3,75 +3,55 @@ ghost use Rattle.std.specs.Prelude.{◌≡◌, drop};
 ghost use Rattle.text.specs.Number.{number};
 ghost use Rattle.scanner.specs.Tokens.{digit_at, number_step, run_value};
 
-// A number that stands at a place, and the place after it; or that none stands there.
-#[derive(Clone, Copy)]
-pub struct NumberStep {
-    pub found: bool,
+// A number that stands at a place, and the place after it.
+#[derive(Clone, Copy, Debug, PartialEq, Eq)]
+pub(crate) struct NumberAt {
     pub value: u32,
     pub next: usize,
 }
 
-const NO_DIGIT: u64 = 10;
-
-const MOST_NUMBER: u64 = 4294967295;
-
-// The digit at a place, or NO_DIGIT.
+// The digit at a place.
 #[tactic(auto, unfolding(crate::specs::Tokens::digit_at))]
-fn digit_at(text: &[u8], at: usize) -> u64
+fn digit_at(text: &[u8], at: usize) -> Option<u32>
     ensures { result ≡ digit_at (drop at text.now) }
 {
-    if text.len() <= at {
-        return NO_DIGIT;
+    match *text.get(at)? {
+        byte @ b'0'..=b'9' => Some((byte - b'0') as u32),
+        _ => None,
     }
-    let byte = text[at];
-    if byte < 48 {
-        return NO_DIGIT;
-    }
-    if 57 < byte {
-        return NO_DIGIT;
-    }
-    (byte - 48) as u64
 }
 
-// The value of all the digits at a place. It is compared with the largest number at each digit, so that nothing wraps.
-#[tactic(auto, unfolding(crate::specs::Tokens::number_step), using(crate::proofs::Tokens::digit_within, crate::proofs::Tokens::passed_all))]
-fn digits_at(text: &[u8], at: usize) -> NumberStep
+// The value of all the digits at a place, if it is no larger than a number may be.
+#[tactic(auto, using(crate::proofs::Tokens::digit_within))]
+fn digits_at(text: &[u8], at: usize) -> Option<NumberAt>
     ensures { number_step text.now result ≡ run_value (drop at text.now) }
 {
-    let mut value: u64 = 0;
+    let mut value: u32 = 0;
     let mut next = at;
-    let mut digit = digit_at(text, next);
-    while digit < NO_DIGIT {
-        value = 10 * value + digit;
-        if MOST_NUMBER < value {
-            return NumberStep {
-                found: false,
-                value: 0,
-                next: at,
-            };
-        }
+    while let Some(digit) = digit_at(text, next) {
+        value = value.checked_mul(10)?.checked_add(digit)?;
         next += 1;
-        digit = digit_at(text, next);
     }
-    NumberStep {
-        found: at < next,
-        value: value as u32,
-        next,
+    if at < next {
+        Some(NumberAt { value, next })
+    } else {
+        None
     }
 }
 
 // The number at a place. A zero stands alone.
-#[tactic(auto, using(crate::proofs::Tokens::digit_within, crate::proofs::Tokens::zero_stands, crate::proofs::Tokens::run_is_number))]
-pub(crate) fn number_at(text: &[u8], at: usize) -> NumberStep
+#[tactic(auto, unfolding(crate::specs::Tokens::number_step), using(crate::proofs::Tokens::digit_within, crate::proofs::Tokens::zero_alone, crate::proofs::Tokens::zero_leads, crate::proofs::Tokens::run_is_number))]
+pub(crate) fn number_at(text: &[u8], at: usize) -> Option<NumberAt>
     ensures { number_step text.now result ≡ number (drop at text.now) }
 {
-    if digit_at(text, at) == 0 {
-        let next = at + 1;
-        return NumberStep {
-            found: digit_at(text, next) == NO_DIGIT,
-            value: 0,
-            next,
-        };
+    match digit_at(text, at) {
+        Some(0) => match digit_at(text, at + 1) {
+            None => Some(NumberAt {
+                value: 0,
+                next: at + 1,
+            }),
+            Some(_) => None,
+        },
+        _ => digits_at(text, at),
     }
-    digits_at(text, at)
 }
