@@ -8,10 +8,9 @@ use Prim.Native.Nat.{ℕ, ◌≤◌}
 use native.Mathlib.Omega.{arith}
 use borrow.Author.Tests.{ltb-false, not-false}
 use lib.ListN.{length, get_or}
+use Rattle.std.specs.Prelude.{Result, Ok, Err}
 use Rattle.graph.specs.declared.refusal.Refusal.{Refusal}
 use Rattle.graph.specs.declared.refusal.Refusal.TheVariants.{NoRoom}
-use Rattle.graph.specs.declared.verdict.Verdict.{Verdict}
-use Rattle.graph.specs.declared.evaluated.Evaluated.{Evaluated}
 use Rattle.graph.specs.Graph.{Graph, free, last, sinks, Lawful, WellFormed}
 use Rattle.graph.specs.Lent.{short, written, ◌leaving◌}
 use Rattle.graph.specs.Refuse.{first_refusal, verdict_is}
@@ -45,12 +44,12 @@ module _ (g : Graph) (ok : Lawful g) where
 
 -- ---- what the verdict on a call says of its effect
 
-module _ (g : Graph) (vs lent : List ℕ) {v : Verdict} (judged : verdict_is v ≡ first_refusal (evaluate_refusals g vs lent)) where
-  pub evaluates_nothing : {r : Refusal} → v ≡ Verdict.Refused r → Evaluated.Refused r leaving lent ≡ evaluate_effect g vs lent
+module _ (g : Graph) (vs lent : List ℕ) {A : Type 0} {v : Result A Refusal} (judged : verdict_is v ≡ first_refusal (evaluate_refusals g vs lent)) where
+  pub evaluates_nothing : {r : Refusal} → v ≡ Err r → Err r leaving lent ≡ evaluate_effect g vs lent
   unfolding evaluate_effect verdict_is
   evaluates_nothing e = rw (rw e at (sym judged), evaluate_effect)
 
-  module _ (e : v ≡ Verdict.Fine) where
+  module _ {x : A} (e : v ≡ Ok x) where
     none_refused : first_refusal (evaluate_refusals g vs lent) ≡ none
     unfolding verdict_is
     none_refused = rw e at (sym judged)
@@ -69,7 +68,7 @@ module _ (g : Graph) (vs lent : List ℕ) {v : Verdict} (judged : verdict_is v �
     pub evaluates_outputs : (blank : List Bool) {known : List Bool} {left : List ℕ}
         → known ≡ written (values_under g.net (assignment_of vs) (last g.net)) blank
         → left ≡ written (map (λ b. cond b 1 0) (map (lit_value bools known) (sinks g))) lent
-        → Evaluated.Outputs (length (sinks g)) leaving left ≡ evaluate_effect g vs lent
+        → Ok (length (sinks g)) leaving left ≡ evaluate_effect g vs lent
     unfolding evaluate_effect
     evaluates_outputs blank k l =
         rw (none_refused, l, k, swept_outputs g fine_means.0.lawful (assignment_of vs) blank, evaluate_effect)

@@ -3,65 +3,40 @@
 
 mod sweep;
 
-ghost use Rattle.std.specs.Prelude.{◌≡◌, cond, [], map, ◌<◌, ◌≤◌, leb, length};
-ghost use Rattle.graph.specs.Lists.{all};
+ghost use Rattle.std.specs.Prelude.{◌≡◌, cond, map, ◌<◌, ◌≤◌, length};
 ghost use Rattle.graph.specs.Literal.{LiteralsBelow};
 ghost use Rattle.graph.specs.Lent.{written, ◌leaving◌};
-ghost use Rattle.graph.specs.Graph.{net_of, graph_of};
 ghost use Rattle.graph.specs.Refuse.{first_refusal, verdict_is};
 ghost use Rattle.graph.specs.Sweep.{bools, lit_value};
 ghost use Rattle.graph.specs.Evaluate.{is_assignment, evaluate_refusals, evaluate_effect};
 
-use checker::well_formed;
-use graph::{Evaluated, Lit, MOST_VARIABLES, Refusal, Verdict};
+use checker::{all_up_to, well_formed};
+use graph::{LentGraph, Lit, MOST_VARIABLES, Refusal};
 use sweep::{literal_value, sweep};
 
-// Each value is 0 or 1.
-fn are_bits(values: &[u32]) -> bool
-    ensures { result ≡ all (λ x. leb x 1) values.now }
-{
-    let mut k = 0;
-    while k < values.len() {
-        if 1 < values[k] {
-            return false;
-        }
-        k += 1;
-    }
-    true
-}
-
 // There is one value an input, each 0 or 1.
-fn is_assignment(inputs: usize, assignment: &[u32]) -> bool
-    ensures { result ≡ is_assignment (net_of inputs []) assignment.now }
+#[tactic(auto, unfolding(graph::specs::Evaluate::is_assignment))]
+fn is_assignment(graph: &LentGraph, assignment: &[u32]) -> bool
+    ensures { result ≡ is_assignment graph.now.net assignment.now }
 {
-    if assignment.len() != inputs {
-        return false;
-    }
-    are_bits(assignment)
+    assignment.len() == graph.inputs() && all_up_to(assignment, 1)
 }
 
 // Whether the graph is evaluated into these values, or why not.
-fn evaluate_verdict(
-    inputs: usize,
-    gates: &[u32],
-    outputs: &[u32],
-    assignment: &[u32],
-    values: &[u32],
-) -> Verdict
-    ensures { verdict_is result
-        ≡ first_refusal (evaluate_refusals (graph_of inputs gates.now outputs.now)
-        assignment.now values.now) }
+#[tactic(auto, unfolding(graph::specs::Evaluate::evaluate_refusals, graph::specs::Refuse::first_refusal, graph::specs::Refuse::verdict_is, graph::specs::Lent::short))]
+fn evaluate_verdict(graph: &LentGraph, assignment: &[u32], values: &[u32]) -> Result<(), Refusal>
+    ensures { verdict_is result ≡ first_refusal (evaluate_refusals graph.now assignment.now values.now) }
 {
-    if !well_formed(inputs, gates, outputs) {
-        return Verdict::Refused(Refusal::BadGraph);
+    if !well_formed(graph) {
+        return Err(Refusal::BadGraph);
     }
-    if !is_assignment(inputs, assignment) {
-        return Verdict::Refused(Refusal::BadAssignment);
+    if !is_assignment(graph, assignment) {
+        return Err(Refusal::BadAssignment);
     }
-    if values.len() < outputs.len() {
-        return Verdict::Refused(Refusal::NoRoom);
+    if values.len() < graph.outputs().len() {
+        return Err(Refusal::NoRoom);
     }
-    Verdict::Fine
+    Ok(())
 }
 
 // The values of these literals, 0 or 1, stand at the front of `values`.
@@ -70,31 +45,18 @@ fn put_values(literals: &[u32], known: &[bool], values: &mut [u32])
     ensures { values.new
         ≡ written (map (λ b. cond b 1 0) (map (lit_value bools known.now) literals.now)) values.old }
 {
-    let mut k = 0;
-    while k < literals.len() {
-        values[k] = literal_value(known, Lit(literals[k])) as u32;
-        k += 1;
+    for (k, literal) in literals.iter().enumerate() {
+        values[k] = literal_value(known, Lit(*literal)) as u32;
     }
 }
 
 // Evaluates a graph: the number of its outputs, whose values are then at the front of the lent list; or why it is refused.
-pub fn evaluate(
-    inputs: usize,
-    gates: &[u32],
-    outputs: &[u32],
-    assignment: &[u32],
-    values: &mut [u32],
-) -> Evaluated
-    ensures { result leaving values.new
-        ≡ evaluate_effect (graph_of inputs gates.now outputs.now) assignment.now values.old }
+pub fn evaluate(graph: &LentGraph, assignment: &[u32], values: &mut [u32]) -> Result<usize, Refusal>
+    ensures { result leaving values.new ≡ evaluate_effect graph.now assignment.now values.old }
 {
-    match evaluate_verdict(inputs, gates, outputs, assignment, values) {
-        Verdict::Refused(refusal) => Evaluated::Refused(refusal),
-        Verdict::Fine => {
-            let mut known = [false; MOST_VARIABLES];
-            sweep(inputs, gates, assignment, &mut known);
-            put_values(outputs, &known, values);
-            Evaluated::Outputs(outputs.len())
-        }
-    }
+    evaluate_verdict(graph, assignment, values)?;
+    let mut known = [false; MOST_VARIABLES];
+    sweep(graph, assignment, &mut known);
+    put_values(graph.outputs(), &known, values);
+    Ok(graph.outputs().len())
 }

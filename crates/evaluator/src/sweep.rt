@@ -2,35 +2,31 @@
 ghost use Rattle.std.specs.Prelude.{◌≡◌, ◌<◌, ◌≤◌, length};
 ghost use Rattle.graph.specs.Literal.{var_of};
 ghost use Rattle.graph.specs.Lent.{written};
-ghost use Rattle.graph.specs.Graph.{net_of, last, IsGate, WellFormedNet};
+ghost use Rattle.graph.specs.Graph.{free, last, IsGate, WellFormedNet};
 ghost use Rattle.graph.specs.Sweep.{bools, lit_value, by_gate};
 ghost use Rattle.graph.specs.Evaluate.{assignment_of, values_under};
 ghost use Rattle.evaluator.specs.Values.{input_values};
 
-use graph::{Lit, Var, fanins_of};
+use graph::{LentGraph, Lit, Var};
 
 // The value of a literal, where `known` has the values of the variables from 0 on.
+#[tactic(auto, unfolding(graph::specs::Sweep::lit_value, graph::specs::Sweep::bools))]
 pub fn literal_value(known: &[bool], l: Lit) -> bool
     requires { var_of l.0 < length known.now }
     ensures { result ≡ lit_value bools known.now l.0 }
 {
-    let at = l.var().at();
-    let x = known[at];
-    if l.is_complement() {
-        return !x;
-    }
-    x
+    let value = known[l.var().at()];
+    if l.is_complement() { !value } else { value }
 }
 
 // The value of gate v, where `known` has the values below it.
-fn gate_value(inputs: usize, gates: &[u32], known: &[bool], v: Var) -> bool
-    requires { WellFormedNet (net_of inputs gates.now) × IsGate (net_of inputs gates.now) v.0 × (v.0 ≤ length known.now) }
-    ensures { result ≡ by_gate bools (net_of inputs gates.now) v.0 known.now }
+#[tactic(auto, using(graph::proofs::Sweep::by_gate_gate), unfolding(graph::specs::Sweep::bools))]
+fn gate_value(graph: &LentGraph, known: &[bool], v: Var) -> bool
+    requires { WellFormedNet graph.now.net × IsGate graph.now.net v.0 × (v.0 ≤ length known.now) }
+    ensures { result ≡ by_gate bools graph.now.net v.0 known.now }
 {
-    let gate = fanins_of(inputs, gates, v);
-    let first = literal_value(known, gate.first);
-    let second = literal_value(known, gate.second);
-    first & second
+    let gate = graph.fanins_of(v);
+    literal_value(known, gate.first) & literal_value(known, gate.second)
 }
 
 // The values of variable 0 and of the inputs stand at the front of `known`.
@@ -39,27 +35,21 @@ fn put_inputs(assignment: &[u32], known: &mut [bool])
     ensures { known.new ≡ written (input_values assignment.now) known.old }
 {
     known[0] = false;
-    let mut k = 0;
-    while k < assignment.len() {
-        known[k + 1] = assignment[k] == 1;
-        k += 1;
+    for (k, value) in assignment.iter().enumerate() {
+        known[k + 1] = *value == 1;
     }
 }
 
 // The values of all variables stand at the front of `known`, from variable 0 on.
-pub fn sweep(inputs: usize, gates: &[u32], assignment: &[u32], known: &mut [bool])
-    requires { WellFormedNet (net_of inputs gates.now) × (length assignment.now ≡ inputs)
-        × (last (net_of inputs gates.now) < length known.old) }
+pub fn sweep(graph: &LentGraph, assignment: &[u32], known: &mut [bool])
+    requires { WellFormedNet graph.now.net × (length assignment.now ≡ free graph.now.net)
+        × (last graph.now.net < length known.old) }
     ensures { known.new
-        ≡ written (values_under (net_of inputs gates.now) (assignment_of assignment.now)
-        (last (net_of inputs gates.now))) known.old }
+        ≡ written (values_under graph.now.net (assignment_of assignment.now) (last graph.now.net)) known.old }
 {
     put_inputs(assignment, known);
-    let last = inputs + gates.len() / 2;
-    let mut n = inputs;
-    while n < last {
-        let v = n + 1;
-        known[v] = gate_value(inputs, gates, known, Var(v as u32));
-        n = v;
+    for n in graph.inputs()..graph.last() {
+        let v = Var(n as u32 + 1);
+        known[v.at()] = gate_value(graph, known, v);
     }
 }

@@ -5,8 +5,7 @@ use mathlib.Core.Bool.{Bool, false, cond}
 use mathlib.Core.List.{List, map}
 use Prim.Native.Nat.{ℕ, ◌<◌}
 use native.Mathlib.Omega.{arith}
-use borrow.Author.Rules.{rules}
-use lib.ListN.{length, get_or, set, length-set, length-map}
+use lib.ListN.{length, get_or, set, length-map}
 use lib.Seq.{take_all}
 use Rattle.graph.specs.Lent.{written}
 use Rattle.graph.specs.Sweep.{bools, lit_value}
@@ -27,14 +26,7 @@ module _ (known : List Bool) (literals : List ℕ) where
 
 pub loop-k-init : goal.loop-k-init
 unfolding written
-loop-k-init c = (search rules, refl, refl)
-
-pub literal_value-requires : goal.literal_value-requires
-literal_value-requires c =
-    c.requires.0.within c.loop-k.k (omega arith)
-
-pub bounds-values-k : goal.bounds-values-k
-bounds-values-k c = omega arith
+loop-k-init c = refl
 
 pub loop-k-preserved : goal.loop-k-preserved
 loop-k-preserved c =
@@ -45,17 +37,14 @@ loop-k-preserved c =
     let found =
     cast_is c.literal_value.result
     ∙ ap (λ (b : Bool). cond b 1 0) c.literal_value.ensures
-    ∙ sym (bits_at known ls k (omega arith)) in (
-      search rules,
-      simp length-set (omega arith),
-      ap₂ (λ (ws : List ℕ) (w : ℕ). set ws k w) c.loop-k.invariant.2 found
-          ∙ written_more (bits known ls) a.values.now k (omega (arith, bits_length known ls)) (omega arith),
-    )
+    ∙ sym (bits_at known ls k (omega arith)) in
+    ap₂ (λ (ws : List ℕ) (w : ℕ). set ws k w) c.loop-k.invariant found
+    ∙ written_more (bits known ls) a.values.now k (omega (arith, bits_length known ls)) (omega arith)
 
 pub returns : goal.returns
 returns c =
     let a = c.args in
     let written-bits = bits a.known.now a.literals.now in
-    c.loop-k.invariant.2
+    c.loop-k.invariant
     ∙ ap (λ (ws : List ℕ). written ws a.values.now)
     (take_all c.loop-k.k written-bits (omega (arith, bits_length a.known.now a.literals.now)))

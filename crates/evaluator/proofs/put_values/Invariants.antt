@@ -2,8 +2,8 @@
 use mathlib.Core.Path.{◌≡◌}
 use mathlib.Core.Bool.{Bool, cond}
 use mathlib.Core.List.{List, map}
-use Prim.Native.Nat.{ℕ, ◌-◌, ◌≤◌}
-use lib.ListN.{length, take}
+use Prim.Native.Nat.{ℕ}
+use lib.ListN.{take}
 use Rattle.graph.specs.Lent.{written}
 use Rattle.graph.specs.Sweep.{bools, lit_value}
 use Rattle.evaluator.proofs.put_values.Given as goal
@@ -13,7 +13,4 @@ module _ (known : List Bool) (literals : List ℕ) where
   bits = map (λ b. cond b 1 0) (map (lit_value bools known) literals)
 
 abbrev pub invariant-loop-k : goal.invariant-loop-k
-invariant-loop-k l = (l.k ≤ length l.literals) × (length l.values ≡ length l.initial.values) × (l.values ≡ written (take l.k (bits l.known l.literals)) l.initial.values)
-
-abbrev pub decreases-loop-k : goal.decreases-loop-k
-decreases-loop-k l = length l.literals - l.k
+invariant-loop-k l = l.values ≡ written (take l.k (bits l.known l.literals)) l.initial.values

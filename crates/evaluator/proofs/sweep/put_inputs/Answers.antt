@@ -1,12 +1,11 @@
 -- `evaluator::sweep::put_inputs` meets its contract: after k turns the values of variable 0 and of the first k inputs are written.
 -- Assumes nothing.
-use mathlib.Core.Path.{◌≡◌, refl, sym, ap, ◌∙◌}
+use mathlib.Core.Path.{◌≡◌, sym, ap, ◌∙◌}
 use mathlib.Core.Bool.{Bool, false}
 use mathlib.Core.List.{List, []}
 use Prim.Native.Nat.{ℕ, ◌+◌, ◌<◌}
 use native.Mathlib.Numerals.{add-one}
 use native.Mathlib.Omega.{arith}
-use borrow.Author.Rules.{rules}
 use lib.Dec.{eqb}
 use lib.ListN.{length, get_or, take, set, length-set, length-map}
 use lib.Seq.{take_all, length-take-le}
@@ -34,23 +33,20 @@ pub loop-k-init : goal.loop-k-init
 unfolding written input_values
 loop-k-init c =
     let lent = c.args.known.now in
-    (search rules, refl, written_next [] false lent (omega arith) ∙ sym (written_over (input_values []) lent false (omega arith)))
+    written_next [] false lent (omega arith) ∙ sym (written_over (input_values []) lent false (omega arith))
 
 pub loop-k-preserved : goal.loop-k-preserved
 loop-k-preserved c =
     let vs = c.args.assignment.now in
     let lent = c.args.known.now in
-    let k = c.loop-k.k in (
-      search rules,
-      length-set c.loop-k.known _ _ ∙ c.loop-k.invariant.1,
-      ap (λ (bs : List Bool). set bs (k + 1) (eqb (get_or vs k 0) 1)) c.loop-k.invariant.2
-          ∙ written_input vs (set lent 0 false) k (omega arith) (omega (arith, length-set lent 0 false)),
-    )
+    let k = c.loop-k.k in
+    ap (λ (bs : List Bool). set bs (k + 1) (eqb (get_or vs k 0) 1)) c.loop-k.invariant
+    ∙ written_input vs (set lent 0 false) k (omega arith) (omega (arith, length-set lent 0 false))
 
 pub returns : goal.returns
 returns c =
     let a = c.args in
-    c.loop-k.invariant.2
+    c.loop-k.invariant
     ∙ written_over (input_values (take c.loop-k.k a.assignment.now)) a.known.now false
     (omega (arith, inputs_length (take c.loop-k.k a.assignment.now)))
     ∙ ap (λ (vs : List ℕ). written (input_values vs) a.known.now) (take_all c.loop-k.k a.assignment.now (omega arith))

@@ -7,9 +7,8 @@ use mathlib.Core.Option.{Option, get_or}
 use Prim.Native.Nat.{ℕ, suc, ◌+◌, ◌<◌, ◌≤◌}
 use native.Mathlib.Numerals.{add-one}
 use native.Mathlib.Omega.{arith}
-use borrow.Author.Rules.{rules}
-use lib.ListN.{length, set, length-set}
-use Rattle.graph.specs.Graph.{Net, free, net_of, last, WellFormedNet}
+use lib.ListN.{length, set}
+use Rattle.graph.specs.Graph.{Net, free, last, WellFormedNet}
 use Rattle.graph.specs.Lent.{written}
 use Rattle.graph.specs.Sweep.{bools, by_gate}
 use Rattle.graph.specs.Evaluate.{assigned, assignment_of, values_under}
@@ -29,22 +28,17 @@ swept_next net a lent known n x ok g h room e f =
     rw (add-one n, e) (swept_more bools (assigned net a) net lent ok n x h (omega arith) top)
 
 pub loop-n-preserved : goal.loop-n-preserved
-loop-n-preserved c = (
-  search rules,
-  search rules,
-  length-set c.loop-n.known _ _ ∙ c.loop-n.invariant.2,
-  λ lent same e. swept_next _ _ lent c.loop-n.known c.loop-n.n c.gate_value.result c.requires.0 c.loop-n.invariant.0
-      (omega arith) (omega arith) (c.loop-n.invariant.3 lent same e) c.gate_value.ensures,
-)
+loop-n-preserved c = λ lent same e. rw c.at.ensures
+    (swept_next _ _ lent c.loop-n.known c.loop-n.n c.gate_value.result c.requires.0 (omega arith)
+    (omega arith) (omega arith) (c.loop-n.invariant lent same e) c.gate_value.ensures)
 
 pub returns : goal.returns
 unfolding values_under
 returns c =
     let a = c.args in
     let put = c.put_inputs in
-    let net = net_of a.inputs a.gates.now in
+    let net = a.graph.now.net in
     let all : c.loop-n.n ≡ last net = omega arith in
     let first = sym (starts_with_inputs net a.assignment.now c.requires.1) in
-    c.loop-n.invariant.3 a.known.now (sym put.auto.known)
-    (put.ensures ∙ ap (λ (bs : List Bool). written bs a.known.now) first)
+    c.loop-n.invariant a.known.now (sym put.auto.known) (put.ensures ∙ ap (λ (bs : List Bool). written bs a.known.now) first)
     ∙ ap (swept net (assignment_of a.assignment.now) a.known.now) all
