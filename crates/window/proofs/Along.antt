@@ -1,23 +1,25 @@
--- Walks along the leaves of a set, place by place: what is known before place k, and what is set down anew.
+-- Walks along a list of leaves: what stands from place k on as numbers, and the leaves before it set down anew.
 -- Assumes nothing.
-use mathlib.Core.Path.{◌≡◌, refl, sym, ap, ◌∙◌}
-use mathlib.Core.Bool.{true, false}
-use mathlib.Core.List.{List, [], ◌∷◌, ◌++◌, map, append_assoc, append-nil}
-use Prim.Native.Nat.{ℕ, zero, suc, ◌+◌, ◌≤◌, ◌<◌}
-use native.Mathlib.Numerals.{add-one}
+use mathlib.Core.Path.{◌≡◌, refl, sym, ap, ap₂, ◌∙◌}
+use mathlib.Core.Bool.{◌&&◌, ◌||◌}
+use mathlib.Core.List.{List, [], ◌∷◌, ◌++◌, map, append_assoc}
+use Prim.Native.Nat.{ℕ, zero, suc, ◌+◌, ◌≤◌, ◌<◌, min}
 use native.Mathlib.Omega.{arith}
-use borrow.Author.Tests.{lt-ltb, le-ltb, eq-eqb, ne_eqb}
-use lib.ListN.{length, get_or, take, drop, length-map, length-append, length-drop, drop_of_length-le}
-use lib.Seq.{drop-cons, take-suc, take_all, length-take-le, get_or-take}
+use borrow.Author.Tests.{eqb-true, lt-ltb, le-ltb, eq-eqb, ne_eqb}
+use lib.Dec.{eqb}
+use lib.ListN.{length, get_or, take, drop, length-map, length-append, length-take}
+use Rattle.std.proofs.lemmas.List.{drop_more, drop_all, take-map, take_min}
+use Rattle.std.specs.List.{list_any, list_all}
 use Rattle.graph.specs.declared.lit.Var.{Var}
-use Rattle.graph.specs.Lists.{is_in}
+use Rattle.graph.specs.Lists.{is_in, all}
+use Rattle.graph.proofs.Lists.{same_tests}
 use Rattle.window.specs.declared.leaf_set.Leaves.{Leaves}
 use Rattle.window.specs.Leaves.{leaf_limit, numbers, leaf_list, leaves_of}
 use Rattle.window.specs.LeafRule.{put, remove}
 use Rattle.window.specs.Growing.{Tidy}
-use Rattle.window.proofs.Growing.{list_of, count_of, tidy_of}
+use Rattle.window.proofs.Growing.{list_of, count_of, tidy_of, tidy_count}
 
--- ---- places by number
+-- ---- places as numbers
 
 -- what is known of an array of structs is known of the list of what they hold
 pub length_held : (X Y : Type 0) (f : X → Y) (l : List X) (n : ℕ) → length (map f l) ≡ n → length l ≡ n
@@ -33,145 +35,136 @@ pub numbers_long : (vs : List Var) → length (numbers vs) ≡ length vs
 unfolding numbers
 numbers_long vs = length-map vs (λ (v : Var). v.0)
 
--- a walk along the n leaves of w that stands before place k
-pub record Along (w : Leaves) (n k : ℕ) : Type 0 where
-  pub counts : w.count ≡ n
-  pub few : n ≤ leaf_limit
-  pub long : length (leaf_list w) ≡ n
-  pub within : k ≤ n
+pub numbers_rest : (vs : List Var) (k : ℕ) → numbers (drop k vs) ≡ drop k (numbers vs)
+unfolding numbers
+numbers_rest vs zero = refl
+numbers_rest [] (suc k) = refl
+numbers_rest (v ∷ vs) (suc k) = numbers_rest vs k
 
-pub along : (w : Leaves) (k : ℕ) → length w.places ≡ 6 → w.count ≤ leaf_limit → k ≤ w.count → Along w w.count k
-along w k six few h =
-    record {
-      counts = refl;
-      few = few;
-      long = length-take-le w.count (numbers w.places) (omega (arith, numbers_long w.places));
-      within = h;
-    }
+-- the leaves are the first places, as many as there are leaves, and no more than there are places
+pub leaves_front : (w : Leaves) → length w.places ≡ 6 → numbers (take (min w.count 6) w.places) ≡ leaf_list w
+unfolding numbers
+leaves_front w six =
+    ap numbers (ap (λ (n : ℕ). take (min w.count n) w.places) (sym six) ∙ take_min w.count w.places)
+    ∙ sym (take-map (λ (v : Var). v.0) w.count w.places)
 
-module _ {w : Leaves} {n k : ℕ} (a : Along w n k) where
-  pub along_more : k < n → Along w n (k + 1)
-  along_more h = record { counts = a.counts; few = a.few; long = a.long; within = omega arith }
+module _ (w : Leaves) (vs : List Var) (e : numbers vs ≡ leaf_list w) where
+  pub leaves_long : length vs ≡ length (leaf_list w)
+  leaves_long = sym (numbers_long vs) ∙ ap length e
 
-  -- the place before which it stands holds the next leaf
-  pub next_leaf : k < n → (get_or w.places k (record { 0 = 0 })).0 ≡ get_or (leaf_list w) k 0
-  next_leaf h = numbers_at w.places k ∙ sym (get_or-take w.count (numbers w.places) k 0 (omega (arith, a.counts)))
+  pub leaves_few : length w.places ≡ 6 → length vs ≤ leaf_limit
+  leaves_few six = omega (arith, leaves_long, length-take w.count (numbers w.places), numbers_long w.places)
 
--- ---- walks along a list
+-- from place k on stands the leaf at k, and then those from the next place on
+pub rest_more : (vs : List Var) (k : ℕ) → k < length vs → numbers (drop k vs) ≡ (get_or vs k (record { 0 = 0 })).0 ∷ numbers (drop (k + 1) vs)
+unfolding numbers
+rest_more vs k h = ap numbers (drop_more vs k (record { 0 = 0 }) h)
 
-pub take_more : (xs : List ℕ) (k : ℕ) → k < length xs → take k xs ++ (get_or xs k 0 ∷ []) ≡ take (k + 1) xs
-take_more xs k h = rw (add-one k, take-suc xs k 0 h)
+pub rest_end : (vs : List Var) (k : ℕ) → length vs ≤ k → numbers (drop k vs) ≡ []
+unfolding numbers
+rest_end vs k h = ap numbers (drop_all k vs h)
 
-module _ (v : ℕ) (xs : List ℕ) (k : ℕ) where
-  pub in_more : k < length xs → ¬ (v ≡ get_or xs k 0) → is_in v xs ≡ is_in v (drop k xs) → is_in v xs ≡ is_in v (drop (k + 1) xs)
-  unfolding is_in
-  in_more h n e = e ∙ rw (add-one k, drop-cons xs k 0 h, ne_eqb v (get_or xs k 0) n)
+-- ---- tests of all leaves
 
-  pub in_here : k < length xs → v ≡ get_or xs k 0 → is_in v xs ≡ is_in v (drop k xs) → is_in v xs ≡ true
-  unfolding is_in
-  in_here h q e = e ∙ rw (drop-cons xs k 0 h, eq-eqb v (get_or xs k 0) q)
+same_number : (x v : ℕ) → eqb v x ≡ eqb x v
+same_number x v = same_tests _ _ (λ e. eq-eqb x v (sym (eqb-true v x e))) (λ e. eq-eqb v x (sym (eqb-true x v e)))
 
-  pub in_end : length xs ≤ k → is_in v xs ≡ is_in v (drop k xs) → is_in v xs ≡ false
-  unfolding is_in
-  in_end h e = e ∙ rw (drop_of_length-le xs {i = k} h)
+pub in_by_std : (v : ℕ) (vs : List Var) → is_in v (numbers vs) ≡ list_any (λ (u : Var). eqb u.0 v) vs
+unfolding is_in numbers
+in_by_std v [] = refl
+in_by_std v (u ∷ us) = ap₂ ◌||◌ (same_number u.0 v) (in_by_std v us)
 
-  pub put_more : k < length xs → get_or xs k 0 < v → put v xs ≡ take k xs ++ put v (drop k xs)
-      → put v xs ≡ take (k + 1) xs ++ put v (drop (k + 1) xs)
+pub zero_by_std : (vs : List Var) → all (λ x. eqb x 0) (numbers vs) ≡ list_all (λ (u : Var). eqb u.0 0) vs
+unfolding all numbers
+zero_by_std [] = refl
+zero_by_std (u ∷ us) = ap₂ ◌&&◌ refl (zero_by_std us)
+
+-- ---- leaves set down after others
+
+module _ {w out : Leaves} (v : ℕ) (t : Tidy out) (room : out.count < leaf_limit) (e : w ≡ leaves_of (leaf_list out ++ (v ∷ []))) where
+  pub pushed_list : leaf_list w ≡ leaf_list out ++ (v ∷ [])
+  pushed_list = list_of w _ e
+
+  pub pushed_tidy : Tidy w
+  pushed_tidy = tidy_of w _ e (omega (arith, tidy_count t, length-append (leaf_list out) (v ∷ [])))
+
+  pub pushed_count : w.count ≡ out.count + 1
+  pushed_count = omega (arith, count_of w _ e, tidy_count t, length-append (leaf_list out) (v ∷ []))
+
+-- the leaves before place k are set down, and what F makes of all of them is those and what it makes of the others
+pub record Rebuilt (F : List ℕ → List ℕ) (vs : List Var) (out : Leaves) (k : ℕ) : Type 0 where
+  pub tidy : Tidy out
+  pub count : out.count ≡ k
+  pub whole : F (numbers vs) ≡ leaf_list out ++ F (numbers (drop k vs))
+
+pub rebuilt_none : (F : List ℕ → List ℕ) (vs : List Var) (out : Leaves) → out ≡ leaves_of [] → Rebuilt F vs out 0
+rebuilt_none F vs out e = record {
+  tidy = tidy_of out [] e (omega arith);
+  count = count_of out [] e;
+  whole = ap (λ (xs : List ℕ). xs ++ F (numbers vs)) (sym (list_of out [] e));
+}
+
+-- one leaf more, which F passes by
+pub rebuilt_more : {F : List ℕ → List ℕ} {vs : List Var} {w out : Leaves} {k : ℕ} (v : Var) → Rebuilt F vs out k → out.count < leaf_limit
+    → w ≡ leaves_of (leaf_list out ++ (v.0 ∷ []))
+    → F (numbers (drop k vs)) ≡ v.0 ∷ F (numbers (drop (k + 1) vs))
+    → Rebuilt F vs w (k + 1)
+rebuilt_more {F} {vs} {w} {out} {k} v b room e p = record {
+  tidy = pushed_tidy v.0 b.tidy room e;
+  count = omega (arith, pushed_count v.0 b.tidy room e, b.count);
+  whole =
+      b.whole
+      ∙ ap (λ (xs : List ℕ). leaf_list out ++ xs) p
+      ∙ sym (append_assoc (leaf_list out) (v.0 ∷ []) (F (numbers (drop (k + 1) vs))))
+      ∙ ap (λ (xs : List ℕ). xs ++ F (numbers (drop (k + 1) vs))) (sym (pushed_list v.0 b.tidy room e));
+}
+
+-- a leaf stands at place k, so there is room for it
+pub rebuilt_room : {F : List ℕ → List ℕ} {vs : List Var} {out : Leaves} {k : ℕ} (w : Leaves) → length w.places ≡ 6 → numbers vs ≡ leaf_list w
+    → Rebuilt F vs out k → k < length vs → Tidy out × (out.count < leaf_limit)
+rebuilt_room {vs = vs} w six same b h = (b.tidy, omega (arith, b.count, leaves_few w vs same six))
+
+-- where F makes ys of the leaves from place k on
+pub rebuilt_whole : {F : List ℕ → List ℕ} {vs : List Var} {out : Leaves} {k : ℕ} (w : Leaves) → numbers vs ≡ leaf_list w → Rebuilt F vs out k
+    → (ys : List ℕ) → F (numbers (drop k vs)) ≡ ys → leaf_list out ++ ys ≡ F (leaf_list w)
+rebuilt_whole {F} {out = out} w same b ys p = sym (ap F (sym same) ∙ b.whole ∙ ap (λ (xs : List ℕ). leaf_list out ++ xs) p)
+
+-- ---- what is put in or removed, at the place of a walk where it comes
+
+module _ (v : ℕ) (vs : List Var) (k : ℕ) where
+  abbrev rest : List ℕ
+  rest = numbers (drop k vs)
+
+  abbrev here : Var
+  here = get_or vs k (record { 0 = 0 })
+
+  pub put_end : length vs ≤ k → put v rest ≡ v ∷ []
   unfolding put
-  put_more h l e =
-      let n : ¬ (v ≡ get_or xs k 0) = omega arith in
-      e ∙ rw (
-        add-one k,
-        drop-cons xs k 0 h,
-        le-ltb v (get_or xs k 0) (omega arith),
-        ne_eqb v (get_or xs k 0) n,
-        take-suc xs k 0 h,
-        append_assoc,
-      )
+  put_end h = rw (rest_end vs k h)
 
-  pub put_before : k < length xs → v < get_or xs k 0 → put v xs ≡ take k xs ++ put v (drop k xs)
-      → (take k xs ++ (v ∷ [])) ++ drop k xs ≡ put v xs
-  unfolding put
-  put_before h l e = sym (e ∙ rw (drop-cons xs k 0 h, lt-ltb v (get_or xs k 0) l, append_assoc))
-
-  pub put_already : k < length xs → v ≡ get_or xs k 0 → put v xs ≡ take k xs ++ put v (drop k xs) → take k xs ++ drop k xs ≡ put v xs
-  unfolding put
-  put_already h q e = sym (e ∙ rw (drop-cons xs k 0 h, le-ltb v (get_or xs k 0) (omega arith), eq-eqb v (get_or xs k 0) q))
-
-  pub put_end : length xs ≤ k → put v xs ≡ take k xs ++ put v (drop k xs) → take k xs ++ (v ∷ []) ≡ put v xs
-  unfolding put
-  put_end h e = sym (e ∙ rw (drop_of_length-le xs {i = k} h))
-
-  pub put_end_long : length xs ≤ k → put v xs ≡ take k xs ++ put v (drop k xs) → length (put v xs) ≡ length xs + 1
-  put_end_long h e =
-      ap length (sym (put_end h e)) ∙ length-append (take k xs) (v ∷ []) ∙ ap (λ (ys : List ℕ). length ys + 1) (take_all k xs h)
-
-  pub remove_more : k < length xs → ¬ (v ≡ get_or xs k 0) → remove v xs ≡ take k xs ++ remove v (drop k xs)
-      → remove v xs ≡ take (k + 1) xs ++ remove v (drop (k + 1) xs)
+  pub remove_end : length vs ≤ k → remove v rest ≡ []
   unfolding remove
-  remove_more h n e = e ∙ rw (add-one k, drop-cons xs k 0 h, ne_eqb v (get_or xs k 0) n, take-suc xs k 0 h, append_assoc)
+  remove_end h = rw (rest_end vs k h)
 
-  pub remove_here : k < length xs → v ≡ get_or xs k 0 → remove v xs ≡ take k xs ++ remove v (drop k xs)
-      → take k xs ++ drop (k + 1) xs ≡ remove v xs
-  unfolding remove
-  remove_here h q e = sym (e ∙ rw (drop-cons xs k 0 h, eq-eqb v (get_or xs k 0) q, add-one k))
+  module _ (h : k < length vs) where
+    pub put_before : v < here.0 → put v rest ≡ v ∷ rest
+    unfolding put
+    put_before l = rw (rest_more vs k h, lt-ltb v here.0 l)
 
-  pub remove_end : length xs ≤ k → remove v xs ≡ take k xs ++ remove v (drop k xs) → take k xs ≡ remove v xs
-  unfolding remove
-  remove_end h e = sym (e ∙ rw (drop_of_length-le xs {i = k} h, append-nil))
+    pub put_already : v ≡ here.0 → put v rest ≡ rest
+    unfolding put
+    put_already e = rw (rest_more vs k h, le-ltb v here.0 (omega arith), eq-eqb v here.0 e)
 
--- one more of the leaves that follow
-pub follow_more : (zs ts xs : List ℕ) (k : ℕ) → k < length xs → zs ++ drop k xs ≡ ts → (zs ++ (get_or xs k 0 ∷ [])) ++ drop (k + 1) xs ≡ ts
-follow_more zs ts xs k h e = rw (append_assoc, add-one k) (ap (λ (ys : List ℕ). zs ++ ys) (sym (drop-cons xs k 0 h)) ∙ e)
+    pub put_after : here.0 < v → put v rest ≡ here.0 ∷ put v (numbers (drop (k + 1) vs))
+    unfolding put
+    put_after l =
+        let n : ¬ (v ≡ here.0) = omega arith in
+        rw (rest_more vs k h, le-ltb v here.0 (omega arith), ne_eqb v here.0 n)
 
-pub follow_end : (zs ts xs : List ℕ) (k : ℕ) → length xs ≤ k → zs ++ drop k xs ≡ ts → zs ≡ ts
-follow_end zs ts xs k h e = sym (append-nil zs) ∙ ap (λ (ys : List ℕ). zs ++ ys) (sym (drop_of_length-le xs {i = k} h)) ∙ e
+    pub remove_here : v ≡ here.0 → remove v rest ≡ numbers (drop (k + 1) vs)
+    unfolding remove
+    remove_here e = rw (rest_more vs k h, eq-eqb v here.0 e)
 
-pub follow_over : (zs ts xs : List ℕ) (k : ℕ) → k < length xs → zs ++ drop k xs ≡ ts → leaf_limit ≤ length zs → leaf_limit < length ts
-follow_over zs ts xs k h e l = omega (arith, ap length e, length-append zs (drop k xs), length-drop k xs)
-
--- ---- the leaves before place k set down anew
-
--- so far those before k; what F makes of all is these and what it makes of the others
-abbrev pub Rebuilt : (List ℕ → List ℕ) → Leaves → ℕ → Leaves → ℕ → Type 0
-Rebuilt F w n out k =
-    Along w n k
-    × (out ≡ leaves_of (take k (leaf_list w)))
-    × (F (leaf_list w) ≡ take k (leaf_list w) ++ F (drop k (leaf_list w)))
-
-pub rebuilt_none : (F : List ℕ → List ℕ) (w : Leaves) {out : Leaves} → length w.places ≡ 6 → w.count ≤ leaf_limit → out ≡ leaves_of []
-    → Rebuilt F w w.count out 0
-rebuilt_none F w six few e = (along w 0 six few (omega arith), e, refl)
-
-module _ {w : Leaves} {n k : ℕ} (a : Along w n k) {out : Leaves} (e : out ≡ leaves_of (take k (leaf_list w))) where
-  front_long : length (take k (leaf_list w)) ≡ k
-  front_long = length-take-le k (leaf_list w) (omega (arith, a.long, a.within))
-
-  pub front_list : leaf_list out ≡ take k (leaf_list w)
-  front_list = list_of out (take k (leaf_list w)) e
-
-  pub front_tidy : Tidy out
-  front_tidy = tidy_of out (take k (leaf_list w)) e (omega (arith, front_long, a.few, a.within))
-
-  pub front_room : k < leaf_limit → Tidy out × (out.count < leaf_limit)
-  front_room h = (front_tidy, omega (arith, count_of out (take k (leaf_list w)) e, front_long))
-
-  -- one more leaf after them
-  module _ {r : Leaves} (v : ℕ) (q : r ≡ leaves_of (leaf_list out ++ (v ∷ []))) where
-    pub front_pushed : r ≡ leaves_of (take k (leaf_list w) ++ (v ∷ []))
-    front_pushed = q ∙ ap (λ (ys : List ℕ). leaves_of (ys ++ (v ∷ []))) front_list
-
-    pub pushed_long : length (take k (leaf_list w) ++ (v ∷ [])) ≡ k + 1
-    pushed_long = length-append (take k (leaf_list w)) (v ∷ []) ∙ ap (λ (i : ℕ). i + 1) front_long
-
-    pub pushed_list : leaf_list r ≡ take k (leaf_list w) ++ (v ∷ [])
-    pushed_list = list_of r (take k (leaf_list w) ++ (v ∷ [])) front_pushed
-
-    pub pushed_tidy : k < leaf_limit → Tidy r
-    pushed_tidy h = tidy_of r (take k (leaf_list w) ++ (v ∷ [])) front_pushed (omega (arith, pushed_long))
-
-    pub front_more : k < n → v ≡ get_or (leaf_list w) k 0 → r ≡ leaves_of (take (k + 1) (leaf_list w))
-    front_more h i =
-        front_pushed
-        ∙ ap (λ (x : ℕ). leaves_of (take k (leaf_list w) ++ (x ∷ []))) i
-        ∙ ap leaves_of (take_more (leaf_list w) k (omega (arith, a.long)))
+    pub remove_after : ¬ (v ≡ here.0) → remove v rest ≡ here.0 ∷ remove v (numbers (drop (k + 1) vs))
+    unfolding remove
+    remove_after n = rw (rest_more vs k h, ne_eqb v here.0 n)

@@ -1,23 +1,23 @@
 -- Picking leaves and asking for a table: the refusal given is the lowest that holds, and what is known where none does.
 -- Assumes nothing.
-use mathlib.Core.Path.{◌≡◌, refl}
+use mathlib.Core.Path.{◌≡◌, refl, sym, ap, ◌∙◌}
 use mathlib.Core.Bool.{true, false, not}
-use mathlib.Core.List.{[]}
 use mathlib.Core.Logic.{◌↔◌, ◌⊎◌, inl, inr}
 use mathlib.Core.Option.{none}
 use Prim.Native.Nat.{ℕ, ◌≤◌}
 use native.Mathlib.Omega.{arith}
+use Rattle.std.specs.Prelude.{Result, Ok, Err}
 use Rattle.graph.specs.declared.refusal.Refusal.{Refusal}
 use Rattle.graph.specs.declared.refusal.Refusal.TheVariants.{BadRoot, NotACut}
-use Rattle.graph.specs.Refuse.{first_refusal, number_of, Answers, verdict_outcome}
+use Rattle.graph.specs.Refuse.{first_refusal, number_of, Outcome, Answers}
 use Rattle.graph.specs.Graph.{Graph, well_formed, WellFormed}
 use Rattle.graph.specs.Use.{in_use, InUse}
 use Rattle.graph.proofs.Graph.{well_formed_iff}
 use Rattle.graph.proofs.Use.{in_use_iff}
 use Rattle.graph.proofs.Refuse.{
   number_of_injective,
+  number_of_not_zero,
   settles_answers,
-  shown,
   ascends,
   Silent,
   Decides,
@@ -27,7 +27,6 @@ use Rattle.graph.proofs.Refuse.{
 }
 use Rattle.graph.proofs.Tests.{denial_on, denial_off}
 use Rattle.window.specs.declared.leaf_set.Leaves.{Leaves}
-use Rattle.window.specs.Leaves.{leaves_of}
 use Rattle.window.specs.Local.{covered, Covered}
 use Rattle.window.specs.Calls.{
   root_refusals,
@@ -49,6 +48,13 @@ use Rattle.window.specs.Calls.{
 }
 use Rattle.window.proofs.LeavesLaws.{well_set_iff}
 use Rattle.window.proofs.Local.{covered_iff}
+
+-- ---- an answer whose number is a refusal's is that refusal
+
+refused_alone : {A : Type 0} (outcome : Result A Refusal → Outcome) → ((q : Refusal) → (outcome (Err q)).number ≡ number_of q)
+    → ((x : A) → (outcome (Ok x)).number ≡ 0) → (a : Result A Refusal) (r : Refusal) → (outcome a).number ≡ number_of r → a ≡ Err r
+refused_alone outcome shows accepts (Ok x) r e = absurd (number_of_not_zero r (sym (accepts x) ∙ e))
+refused_alone outcome shows accepts (Err q) r e = ap Err (number_of_injective q r (sym (shows q) ∙ e))
 
 -- ---- a graph and a gate in use
 
@@ -84,14 +90,13 @@ module _ (g : Graph) (root : ℕ) where
   }
 
   pub pick_answers : Answers root_rank (RootGiven g root) (pick_outcome (pick_answer g root)).number
-  unfolding pick_answer pick_outcome verdict_outcome
+  unfolding pick_answer pick_outcome
   pick_answers = settles_answers number_of_injective (first_settles root_decides) _ (λ q e. rw (e, pick_answer)) (λ e. rw (e, pick_answer))
 
-  -- a refusal answers no leaves
-  pub pick_refused_empty : (r : Refusal) → (pick_outcome (pick_answer g root)).number ≡ number_of r
-      → (pick_answer g root).leaves ≡ leaves_of []
-  unfolding pick_answer pick_outcome verdict_outcome
-  pick_refused_empty r e = let s = shown (first_refusal (root_refusals g root)) _ (λ n. rw (n, pick_answer)) r e in rw (s.1, pick_answer)
+  -- a refusal is the whole answer: no leaves come with it
+  pub pick_refused_empty : (r : Refusal) → (pick_outcome (pick_answer g root)).number ≡ number_of r → pick_answer g root ≡ Err r
+  unfolding pick_outcome
+  pick_refused_empty = refused_alone pick_outcome (λ q. refl) (λ w. refl) (pick_answer g root)
 
 -- ---- leaves besides that cut the root
 
@@ -142,9 +147,7 @@ module _ (g : Graph) (root : ℕ) (w : Leaves) where
   table_answers =
       settles_answers number_of_injective (first_settles window_decides) _ (λ q e. rw (e, table_answer)) (λ e. rw (e, table_answer))
 
-  -- a refusal answers a table of zeros
-  pub table_refused_zero : (r : Refusal) → (table_outcome (table_answer g root w)).number ≡ number_of r
-      → (table_answer g root w).table ≡ record { 0 = 0 }
-  unfolding table_answer table_outcome verdict_outcome
-  table_refused_zero r e =
-      let s = shown (first_refusal (window_refusals g root w)) _ (λ n. rw (n, table_answer)) r e in rw (s.1, table_answer)
+  -- a refusal is the whole answer: no table comes with it
+  pub table_refused_zero : (r : Refusal) → (table_outcome (table_answer g root w)).number ≡ number_of r → table_answer g root w ≡ Err r
+  unfolding table_outcome
+  table_refused_zero = refused_alone table_outcome (λ q. refl) (λ t. refl) (table_answer g root w)

@@ -1,20 +1,20 @@
 -- Leaf sets as the code keeps them: a leaf put after the others, what fits, how long sets become, and the fanin variables of a gate.
 -- Assumes nothing.
 use mathlib.Core.Path.{◌≡◌, refl, sym, ap, ap₂, ◌∙◌}
-use mathlib.Core.Bool.{Bool, true, false, cond}
 use mathlib.Core.List.{List, [], ◌∷◌, ◌++◌}
-use mathlib.Core.Option.{none, some}
+use Rattle.std.specs.Prelude.{Some, None}
+use Rattle.std.proofs.lemmas.Option.{none-some, same_Some}
+use mathlib.Core.Logic.{◌⊎◌, inl, inr}
 use Prim.Native.Nat.{ℕ, suc, ◌+◌, ◌-◌, ◌≤◌, ◌<◌}
 use native.Mathlib.Omega.{arith}
-use borrow.Author.Tests.{leb-true, leb-false, eq-eqb, ne_eqb, le-leb, lt-leb}
-use lib.Dec.{leb}
+use borrow.Author.Tests.{eq-eqb, ne_eqb, le-leb, lt-leb}
 use lib.ListN.{length, set, replicate, length-append}
 use Rattle.graph.specs.declared.lit.Var.{Var}
 use Rattle.graph.specs.Lists.{filled}
 use Rattle.graph.specs.Literal.{var_of}
 use Rattle.graph.specs.Graph.{Net, first, second}
+use Rattle.graph.proofs.Lists.{at_most_or_above}
 use Rattle.window.specs.declared.leaf_set.Leaves.{Leaves}
-use Rattle.window.specs.declared.leaf_set.Grown.{Grown}
 use Rattle.window.specs.Leaves.{leaf_limit, variables, leaf_list, leaves_of}
 use Rattle.window.specs.LeafRule.{put, insert, remove, with_fanins}
 use Rattle.window.specs.Growing.{grown_from, fitting, grown_of, Tidy}
@@ -82,41 +82,32 @@ pushed w v t h =
 
 -- ---- what fits
 
-pub fits : (xs : List ℕ) → length xs ≤ leaf_limit → grown_of xs ≡ record { fits = true; leaves = leaves_of xs }
+pub fits : (xs : List ℕ) → length xs ≤ leaf_limit → grown_of xs ≡ Some (leaves_of xs)
 unfolding grown_of grown_from fitting
 fits xs h = rw (le-leb (length xs) leaf_limit h)
 
-pub fits_not : (xs : List ℕ) → leaf_limit < length xs → grown_of xs ≡ grown_from none
-unfolding grown_of fitting
+pub fits_not : (xs : List ℕ) → leaf_limit < length xs → grown_of xs ≡ None
+unfolding grown_of grown_from fitting
 fits_not xs h = rw (lt-leb (length xs) leaf_limit h)
 
-pub fits_leaves : (g : Grown) (xs : List ℕ) → g ≡ grown_of xs → length xs ≤ leaf_limit → g.leaves ≡ leaves_of xs
-fits_leaves g xs e h = ap (λ (u : Grown). u.leaves) (e ∙ fits xs h)
-
-fits_flag : (xs : List ℕ) → (grown_of xs).fits ≡ leb (length xs) leaf_limit
-unfolding grown_of fitting grown_from
-fits_flag xs = go (leb (length xs) leaf_limit)
+-- what was set down is the list, and it has room
+pub grown_some : (xs : List ℕ) (w : Leaves) → Some w ≡ grown_of xs → (length xs ≤ leaf_limit) × (w ≡ leaves_of xs)
+grown_some xs w e = go (at_most_or_above (length xs) leaf_limit)
   where
-    go : (b : Bool) → (grown_from (cond b (some xs) none)).fits ≡ b
-    go true = refl
-    go false = refl
+    go : (length xs ≤ leaf_limit) ⊎ (leaf_limit < length xs) → (length xs ≤ leaf_limit) × (w ≡ leaves_of xs)
+    go (inl h) = (h, same_Some w (leaves_of xs) (e ∙ fits xs h))
+    go (inr h) = absurd (none-some w (sym (e ∙ fits_not xs h)))
 
-module _ (g : Grown) (xs : List ℕ) (e : g ≡ grown_of xs) where
-  flag : g.fits ≡ leb (length xs) leaf_limit
-  flag = ap (λ (u : Grown). u.fits) e ∙ fits_flag xs
+pub grown_none : (xs : List ℕ) → None ≡ grown_of xs → leaf_limit < length xs
+grown_none xs e = go (at_most_or_above (length xs) leaf_limit)
+  where
+    go : (length xs ≤ leaf_limit) ⊎ (leaf_limit < length xs) → leaf_limit < length xs
+    go (inl h) = absurd (none-some (leaves_of xs) (e ∙ fits xs h))
+    go (inr h) = h
 
-  pub grown_few : g.fits ≡ true → length xs ≤ leaf_limit
-  grown_few t = leb-true (length xs) leaf_limit (sym flag ∙ t)
-
-  pub grown_leaves : g.fits ≡ true → g.leaves ≡ leaves_of xs
-  grown_leaves t = fits_leaves g xs e (grown_few t)
-
-  pub grown_over : g.fits ≡ false → leaf_limit < length xs
-  grown_over t = leb-false (length xs) leaf_limit (sym flag ∙ t)
-
-  -- a longer list does not fit either
-  pub grown_longer : g.fits ≡ false → (ys : List ℕ) → length xs ≤ length ys → g ≡ grown_of ys
-  grown_longer t ys h = e ∙ fits_not xs (grown_over t) ∙ sym (fits_not ys (omega (arith, grown_over t)))
+-- a longer list does not fit either
+pub grown_longer : (xs ys : List ℕ) → None ≡ grown_of xs → length xs ≤ length ys → None ≡ grown_of ys
+grown_longer xs ys e h = sym (fits_not ys (omega (arith, grown_none xs e)))
 
 -- ---- how long sets become
 

@@ -2,13 +2,11 @@
 -- Assumes nothing.
 use mathlib.Core.Path.{◌≡◌, refl, ap, ◌∙◌}
 use mathlib.Core.Bool.{Bool, true, false, ◌&&◌}
-use mathlib.Core.List.{List, ◌∷◌}
-use Prim.Native.Nat.{ℕ, suc, ◌+◌, ◌≤◌, ◌<◌}
-use native.Mathlib.Numerals.{add-one}
-use borrow.Author.Tests.{lt-ltb, le-ltb, eq-eqb, ne_eqb}
+use mathlib.Core.List.{List, [], ◌∷◌}
+use Prim.Native.Nat.{ℕ, ◌≤◌, ◌<◌}
+use borrow.Author.Tests.{lt-ltb, le-ltb}
 use lib.Dec.{leb, ltb, eqb}
-use lib.ListN.{length, get_or, drop, drop_of_length-le}
-use lib.Seq.{drop-cons}
+use lib.ListN.{drop}
 use Rattle.graph.specs.Lists.{every, all}
 use Rattle.graph.proofs.Lists.{and_true}
 use Rattle.window.specs.declared.leaf_set.Leaves.{Leaves}
@@ -24,40 +22,27 @@ module _ (root : ℕ) where
   and_no true = refl
   and_no false = refl
 
-  module _ (t : Bool) (x : ℕ) (xs : List ℕ) (k : ℕ) (e : t ≡ ascend_below x (drop k xs)) where
-    pub ascend_more : k < length xs → x < get_or xs k 0 → get_or xs k 0 < root → t ≡ ascend_below (get_or xs k 0) (drop (k + 1) xs)
+  module _ (t : Bool) (x y : ℕ) (ys : List ℕ) (e : t ≡ ascend_below x (y ∷ ys)) where
+    pub ascend_more : x < y → y < root → t ≡ ascend_below y ys
     unfolding ascends_from all
-    ascend_more h up low = e ∙ rw (drop-cons xs k 0 h, lt-ltb _ _ up, lt-ltb _ _ low, add-one k)
+    ascend_more up low = e ∙ rw (lt-ltb _ _ up, lt-ltb _ _ low)
 
-    pub ascend_not : k < length xs → get_or xs k 0 ≤ x → t ≡ false
+    pub ascend_not : y ≤ x → t ≡ false
     unfolding ascends_from all
-    ascend_not h down = e ∙ rw (drop-cons xs k 0 h, le-ltb _ _ down)
+    ascend_not down = e ∙ rw (le-ltb _ _ down)
 
-    pub ascend_over : k < length xs → root ≤ get_or xs k 0 → t ≡ false
+    pub ascend_over : root ≤ y → t ≡ false
     unfolding ascends_from all
-    ascend_over h high = e ∙ rw (drop-cons xs k 0 h, le-ltb _ _ high) (and_no (ascends_from x (get_or xs k 0 ∷ drop (suc k) xs)))
+    ascend_over high = e ∙ rw (le-ltb _ _ high) (and_no (ascends_from x (y ∷ ys)))
 
-    pub ascend_end : length xs ≤ k → t ≡ true
-    unfolding ascends_from all
-    ascend_end h = e ∙ rw (drop_of_length-le xs {i = k} h)
+  pub ascend_end : (x : ℕ) → ascend_below x [] ≡ true
+  unfolding ascends_from all
+  ascend_end x = refl
 
 -- ---- places that are 0
 
 abbrev pub zeros : List ℕ → Bool
 zeros xs = all (λ x. eqb x 0) xs
-
-module _ (t : Bool) (xs : List ℕ) (k : ℕ) (e : t ≡ zeros (drop k xs)) where
-  pub zeros_more : k < length xs → get_or xs k 0 ≡ 0 → t ≡ zeros (drop (k + 1) xs)
-  unfolding all
-  zeros_more h z = e ∙ rw (drop-cons xs k 0 h, eq-eqb _ _ z, add-one k)
-
-  pub zeros_not : k < length xs → ¬ (get_or xs k 0 ≡ 0) → t ≡ false
-  unfolding all
-  zeros_not h n = e ∙ rw (drop-cons xs k 0 h, ne_eqb _ _ n)
-
-  pub zeros_end : length xs ≤ k → t ≡ true
-  unfolding all
-  zeros_end h = e ∙ rw (drop_of_length-le xs {i = k} h)
 
 -- the count, the leaves, and the places that no leaf uses
 pub well_set_by : (root : ℕ) (w : Leaves)

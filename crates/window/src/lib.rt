@@ -4,5 +4,5 @@
 mod leaf_set;
 mod truth;
 
-pub use leaf_set::{Grown, LEAF_LIMIT, Leaves};
+pub use leaf_set::{LEAF_LIMIT, Leaves};
 pub use truth::Table;

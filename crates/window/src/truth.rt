@@ -6,7 +6,7 @@ ghost use Rattle.window.specs.Table.{words, same_table, leaf_pattern};
 use crate::leaf_set::LEAF_LIMIT;
 
 // The 64 bits of a local function: bit i is its value where leaf j has bit j of i.
-#[derive(Clone, Copy)]
+#[derive(Clone, Copy, Debug, PartialEq, Eq)]
 pub struct Table(pub u64);
 
 // The tables of the leaves themselves.
@@ -19,6 +19,7 @@ const LEAF_PATTERNS: [Table; LEAF_LIMIT] = [
     Table(0xFFFFFFFF00000000),
 ];
 
+#[tactic(auto, unfolding(crate::specs::Table::words, crate::specs::Table::same_table))]
 impl Table {
     // All bits are 0: what variable 0 has.
     pub fn zero() -> Table

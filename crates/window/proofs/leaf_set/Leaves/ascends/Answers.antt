@@ -1,44 +1,48 @@
--- `window::Leaves::ascends` meets its contract: what the leaves from place k on say is what all of them say.
+-- `window::Leaves::ascends` meets its contract: what the leaves from the next one on say is what all of them say.
 -- Assumes nothing.
-use mathlib.Core.Path.{◌≡◌, refl, sym}
-use Prim.Native.Nat.{◌≤◌, ◌<◌}
-use native.Mathlib.Omega.{arith}
-use borrow.Author.Rules.{rules}
-use lib.ListN.{length, get_or}
-use Rattle.window.specs.Leaves.{leaf_list}
-use Rattle.window.proofs.Along.{length_held, along, along_more, next_leaf}
-use Rattle.window.proofs.Places.{ascend_more, ascend_not, ascend_over, ascend_end}
+use Rattle.std.proofs.Common.{◌+◌, ◌≤◌, ◌<◌, get_or, drop, sym, ap, ◌∙◌, rules, tests}
+use Rattle.window.specs.Leaves.{numbers}
+use Rattle.window.proofs.Along.{rest_more, rest_end}
+use Rattle.window.proofs.Places.{ascend_below, ascend_more, ascend_not, ascend_over, ascend_end}
 use Rattle.window.proofs.leaf_set.Leaves.ascends.Goals as goal
+use Rattle.window.proofs.leaf_set.Leaves.ascends.Goals.{then-le-via-then-le, then-le-via-else-le+then-le-2}
 
-pub loop-k-init : goal.loop-k-init
-loop-k-init c =
-    let six : length c.args.self.places ≡ 6 = search (rules, length_held) in
-    (along c.args.self 0 six c.requires (omega arith), refl)
+pub returns-then-le : goal.returns-then-le
+returns-then-le c =
+    let root = c.args.root.0 in
+    let leaves = c.as_slice-leaf-items.result.now in
+    let before = c.loop-leaf.before.0 in
+    let leaf = (get_or leaves c.loop-leaf.leaf-index (record { 0 = 0 })).0 in
+    let rest = numbers (drop (c.loop-leaf.leaf-index + 1) leaves) in
+    let all =
+    ap (ascend_below root 0) (sym c.as_slice-leaf-items.ensures)
+    ∙ c.loop-leaf.invariant
+    ∙ ap (ascend_below root before) (rest_more leaves c.loop-leaf.leaf-index c.loop-leaf-test.true) in
+    elim c.then-le.branch [
+      | then-le-via-then-le w ↦ let down : leaf ≤ before = search (rules, tests) in sym (ascend_not root _ before leaf rest all down)
+      | then-le-via-else-le+then-le-2 w ↦ let high : root ≤ leaf = search (rules, tests) in sym (ascend_over root _ before leaf rest all high)
+    ]
 
-pub returns-then-leaf-before : goal.returns-then-leaf-before
-returns-then-leaf-before c =
-    let leaves = leaf_list c.args.self in
-    let (a, e) = c.loop-k.invariant in
-    let down : get_or leaves c.loop-k.k 0 ≤ c.loop-k.before = omega (arith, next_leaf a (omega arith)) in
-    sym (ascend_not c.args.root.0 _ _ leaves c.loop-k.k e (omega arith) down)
-
-pub returns-then-root-leaf : goal.returns-then-root-leaf
-returns-then-root-leaf c =
-    let leaves = leaf_list c.args.self in
-    let (a, e) = c.loop-k.invariant in
-    let high : c.args.root.0 ≤ get_or leaves c.loop-k.k 0 = omega (arith, next_leaf a (omega arith)) in
-    sym (ascend_over c.args.root.0 _ _ leaves c.loop-k.k e (omega arith) high)
-
-pub loop-k-preserved : goal.loop-k-preserved
-loop-k-preserved c =
-    let leaves = leaf_list c.args.self in
-    let (a, e) = c.loop-k.invariant in
-    let leaf = next_leaf a (omega arith) in
-    let up : c.loop-k.before < get_or leaves c.loop-k.k 0 = omega arith in
-    let low : get_or leaves c.loop-k.k 0 < c.args.root.0 = omega arith in
-    (along_more a (omega arith), rw leaf (ascend_more c.args.root.0 _ _ leaves c.loop-k.k e (omega arith) up low))
+pub loop-leaf-preserved : goal.loop-leaf-preserved
+loop-leaf-preserved c =
+    let root = c.args.root.0 in
+    let leaves = c.as_slice-leaf-items.result.now in
+    let before = c.loop-leaf.before.0 in
+    let leaf = (get_or leaves c.loop-leaf.leaf-index (record { 0 = 0 })).0 in
+    let rest = numbers (drop (c.loop-leaf.leaf-index + 1) leaves) in
+    let all = c.loop-leaf.invariant ∙ ap (ascend_below root before) (rest_more leaves c.loop-leaf.leaf-index c.loop-leaf-test.true) in
+    let up : before < leaf = search (rules, tests) in
+    let low : leaf < root = search (rules, tests) in
+    ascend_more root _ before leaf rest all up low
 
 pub returns : goal.returns
 returns c =
-    let (a, e) = c.loop-k.invariant in
-    sym (ascend_end c.args.root.0 _ _ (leaf_list c.args.self) c.loop-k.k e (omega arith))
+    let root = c.args.root.0 in
+    let leaves = c.as_slice-leaf-items.result.now in
+    let before = c.loop-leaf.before.0 in
+    sym (
+    ap (ascend_below root 0) (sym c.as_slice-leaf-items.ensures)
+    ∙ c.loop-leaf.invariant
+    ∙ ap (ascend_below root before) (rest_end leaves c.loop-leaf.leaf-index c.loop-leaf-test.false)
+    ∙ ascend_end root before
+    )

@@ -1,16 +1,9 @@
--- What the loop keeps, and how far it has to go.
-use mathlib.Core.Path.{◌≡◌}
-use Prim.Native.Nat.{◌-◌}
-use lib.ListN.{drop}
-use Rattle.window.specs.Leaves.{leaf_list}
-use Rattle.window.proofs.Along.{Along}
+-- What the leaves from the next one on say is what all of them say.
+use Rattle.std.proofs.Common.{◌≡◌, drop}
+use Rattle.window.specs.Leaves.{numbers}
 use Rattle.window.proofs.Places.{ascend_below}
 use Rattle.window.proofs.leaf_set.Leaves.ascends.Given as goal
 
-abbrev pub invariant-loop-k : goal.invariant-loop-k
-invariant-loop-k l =
-    Along l.self l.n l.k
-    × (ascend_below l.root.0 0 (leaf_list l.self) ≡ ascend_below l.root.0 l.before (drop l.k (leaf_list l.self)))
-
-abbrev pub decreases-loop-k : goal.decreases-loop-k
-decreases-loop-k l = l.n - l.k
+abbrev pub invariant-loop-leaf : goal.invariant-loop-leaf
+invariant-loop-leaf l =
+    ascend_below l.root.0 0 (numbers l.leaf-items) ≡ ascend_below l.root.0 l.before.0 (numbers (drop l.leaf-index l.leaf-items))

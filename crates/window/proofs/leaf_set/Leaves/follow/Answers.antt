@@ -1,47 +1,42 @@
--- `window::Leaves::follow` meets its contract: what is set down, and the leaves from k on, are the whole.
+-- `window::Leaves::follow` meets its contract: what is set down, and the leaves from the next one on, are the whole.
 -- Assumes nothing.
-use mathlib.Core.Path.{◌≡◌, refl, sym, ap, ◌∙◌}
-use mathlib.Core.Bool.{true}
-use mathlib.Core.List.{[], ◌∷◌, ◌++◌}
-use Prim.Native.Nat.{ℕ}
-use native.Mathlib.Omega.{arith}
-use borrow.Author.Rules.{rules}
-use lib.ListN.{length, get_or, length-append}
+use Rattle.std.proofs.Common.{ℕ, ◌<◌, List, ◌++◌, length, drop, Some, sym, ap, ◌∙◌, append_assoc, append-nil, length-append, arith}
 use Rattle.window.specs.declared.leaf_set.Leaves.{Leaves}
-use Rattle.window.specs.declared.leaf_set.Grown.{Grown}
-use Rattle.window.specs.Leaves.{leaf_list, leaves_of}
+use Rattle.window.specs.Leaves.{leaf_limit, numbers, leaf_list}
 use Rattle.window.specs.Growing.{grown_of}
-use Rattle.window.proofs.Growing.{tidy_count, list_of, tidy_of, fits, fits_not}
-use Rattle.window.proofs.Along.{length_held, along, along_more, next_leaf, follow_more, follow_end, follow_over}
+use Rattle.window.proofs.Growing.{tidy_count, fits, fits_not}
+use Rattle.window.proofs.Along.{rest_more, rest_end, pushed_list, pushed_tidy}
 use Rattle.window.proofs.leaf_set.Leaves.follow.Goals as goal
-
-pub loop-k-init : goal.loop-k-init
-loop-k-init c =
-    let six : length c.args.from.places ≡ 6 = search (rules, length_held) in
-    (along c.args.from c.args.start six c.requires.1 c.requires.2, c.requires.0, refl)
 
 pub returns-then-out-eq-LEAF_LIMIT : goal.returns-then-out-eq-LEAF_LIMIT
 returns-then-out-eq-LEAF_LIMIT c =
-    let (a, t, e) = c.loop-k.invariant in
-    c.none.ensures
-    ∙ sym (fits_not _ (follow_over (leaf_list c.loop-k.out) _ _ c.loop-k.k (omega arith) e (omega (arith, tidy_count t))))
+    let (t, e) = c.loop-v.invariant in
+    let zs = leaf_list c.loop-v.out in
+    let more = rest_more c.args.rest.now c.loop-v.v-index c.loop-v-test.true in
+    let over : leaf_limit < length (leaf_list c.args.self ++ numbers c.args.rest.now) =
+    omega (arith, ap length e, ap length more, length-append zs (numbers (drop c.loop-v.v-index c.args.rest.now)), tidy_count t) in
+    sym (fits_not _ over)
 
-pub loop-k-preserved : goal.loop-k-preserved
-loop-k-preserved c =
-    let xs = leaf_list c.args.from in
-    let zs = leaf_list c.loop-k.out in
-    let (a, t, e) = c.loop-k.invariant in
-    let p : c.push-out.result ≡ leaves_of (zs ++ (get_or xs c.loop-k.k 0 ∷ [])) =
-    c.push-out.ensures ∙ ap (λ (x : ℕ). leaves_of (zs ++ (x ∷ []))) (next_leaf a (omega arith)) in (
-      along_more a (omega arith),
-      tidy_of _ _ p (omega (arith, tidy_count t, length-append zs (get_or xs c.loop-k.k 0 ∷ []))),
-      rw (list_of _ _ p) (follow_more zs _ xs c.loop-k.k (omega arith) e),
+pub push-out-requires : goal.push-out-requires
+push-out-requires c =
+    let (t, e) = c.loop-v.invariant in
+    (t, omega (arith, t.few))
+
+pub loop-v-preserved : goal.loop-v-preserved
+loop-v-preserved c =
+    let (t, e) = c.loop-v.invariant in
+    let zs = leaf_list c.loop-v.out in
+    let room : c.loop-v.out.count < leaf_limit = omega (arith, t.few) in
+    let more = rest_more c.args.rest.now c.loop-v.v-index c.loop-v-test.true in (
+      pushed_tidy _ t room c.push-out.ensures,
+      rw (pushed_list _ t room c.push-out.ensures, append_assoc) (ap (λ (xs : List ℕ). zs ++ xs) (sym more) ∙ e),
     )
 
 pub returns : goal.returns
 returns c =
-    let zs = leaf_list c.loop-k.out in
-    let (a, t, e) = c.loop-k.invariant in
-    ap {B = Grown} (λ (w : Leaves). record { fits = true; leaves = w }) (sym t.same)
-    ∙ sym (fits zs (omega (arith, tidy_count t)))
-    ∙ ap grown_of (follow_end zs _ _ c.loop-k.k (omega arith) e)
+    let (t, e) = c.loop-v.invariant in
+    let zs = leaf_list c.loop-v.out in
+    let whole = ap (λ (xs : List ℕ). zs ++ xs) (sym (rest_end c.args.rest.now c.loop-v.v-index c.loop-v-test.false)) ∙ e in
+    ap (λ (w : Leaves). Some w) (sym t.same)
+    ∙ sym (fits zs (omega (arith, tidy_count t, t.few)))
+    ∙ ap grown_of (sym (append-nil zs) ∙ whole)

@@ -1,18 +1,9 @@
--- What the loop keeps, and how far it has to go.
-use mathlib.Core.Path.{◌≡◌}
-use mathlib.Core.List.{◌++◌}
-use Prim.Native.Nat.{◌-◌}
-use lib.ListN.{drop}
-use Rattle.window.specs.Leaves.{leaf_list}
+-- What is set down, and the leaves from the next one on, are the whole.
+use Rattle.std.proofs.Common.{◌≡◌, ◌++◌, drop}
+use Rattle.window.specs.Leaves.{numbers, leaf_list}
 use Rattle.window.specs.Growing.{Tidy}
-use Rattle.window.proofs.Along.{Along}
 use Rattle.window.proofs.leaf_set.Leaves.follow.Given as goal
 
-abbrev pub invariant-loop-k : goal.invariant-loop-k
-invariant-loop-k l =
-    Along l.from l.n l.k
-    × Tidy l.out
-    × (leaf_list l.out ++ drop l.k (leaf_list l.from) ≡ leaf_list l.initial.out ++ drop l.initial.k (leaf_list l.from))
-
-abbrev pub decreases-loop-k : goal.decreases-loop-k
-decreases-loop-k l = l.n - l.k
+abbrev pub invariant-loop-v : goal.invariant-loop-v
+invariant-loop-v l =
+    Tidy l.out × (leaf_list l.out ++ numbers (drop l.v-index l.rest) ≡ leaf_list l.fn.self ++ numbers l.rest)

@@ -1,23 +1,14 @@
 -- `window::Leaves::leaf` meets its contract.
 -- Assumes nothing.
-use mathlib.Core.Path.{◌≡◌, sym}
-use native.Mathlib.Omega.{arith}
-use borrow.Author.Rules.{rules}
-use lib.ListN.{length, get_or-eq_default}
-use Rattle.window.specs.Leaves.{leaf_list}
-use Rattle.window.proofs.Along.{length_held, along, next_leaf}
+use Rattle.std.proofs.Common.{◌≡◌, get_or, ap, ◌∙◌, arith}
+use Rattle.std.proofs.lemmas.Grind.{common_steps}
+use Rattle.std.proofs.lemmas.Option.{gets}
+use Rattle.graph.specs.declared.lit.Var.{Var}
+use Rattle.window.proofs.Along.{numbers_at}
 use Rattle.window.proofs.leaf_set.Leaves.leaf.Goals as goal
-
-pub returns-then-self-place : goal.returns-then-self-place
-returns-then-self-place c =
-    let six : length c.args.self.places ≡ 6 = search (rules, length_held) in
-    let a = along c.args.self 0 six c.requires (omega arith) in
-    sym (get_or-eq_default (leaf_list c.args.self) 0 (omega (arith, a.long)))
-
-pub bounds-self-place : goal.bounds-self-place
-bounds-self-place c = search (rules, length_held)
 
 pub returns : goal.returns
 returns c =
-    let six : length c.args.self.places ≡ 6 = search (rules, length_held) in
-    next_leaf (along c.args.self c.args.place six c.requires (omega arith)) (omega arith)
+    let leaves = c.as_slice.result.now in
+    let found : c.unwrap_or.result ≡ get_or leaves c.args.place (record { 0 = 0 }) = grind (arith, common_steps, gets) in
+    ap (λ (v : Var). v.0) found ∙ numbers_at leaves c.args.place ∙ ap (λ xs. get_or xs c.args.place 0) c.as_slice.ensures

@@ -1,73 +1,63 @@
 -- `window::Leaves::put` meets its contract: the leaves before k are set down anew.
 -- Assumes nothing.
-use mathlib.Core.Path.{◌≡◌, sym, ◌∙◌}
-use Prim.Native.Nat.{◌<◌}
-use native.Mathlib.Omega.{arith}
-use borrow.Author.Rules.{rules}
-use lib.ListN.{length, get_or}
-use Rattle.window.specs.Leaves.{leaf_list}
+use Rattle.std.proofs.Common.{◌≡◌, ◌<◌, length, get_or, ap, ◌∙◌, append_assoc, rules, tests}
+use Rattle.std.proofs.lemmas.List.{take_rest}
+use Rattle.window.specs.Leaves.{numbers}
 use Rattle.window.specs.LeafRule.{put}
-use Rattle.window.proofs.Growing.{fits, fits_not}
-use Rattle.window.proofs.Along.{length_held, put_more, put_before, put_already, put_end, put_end_long}
-use Rattle.window.proofs.Along.{rebuilt_none, along_more, next_leaf, front_list, front_tidy, front_room, front_more}
-use Rattle.window.proofs.Along.{front_pushed, pushed_list, pushed_tidy}
+use Rattle.window.specs.Growing.{grown_of}
+use Rattle.window.proofs.Along.{length_held, pushed_list, pushed_tidy, rebuilt_none, rebuilt_more, rebuilt_room, rebuilt_whole}
+use Rattle.window.proofs.Along.{put_before, put_already, put_after, put_end}
 use Rattle.window.proofs.leaf_set.Leaves.put.Goals as goal
 
 pub loop-k-init : goal.loop-k-init
-loop-k-init c =
-    let six : length c.args.self.places ≡ 6 = search (rules, length_held) in
-    rebuilt_none (put c.args.v.0) c.args.self six c.requires c.none-out.ensures
+loop-k-init c = rebuilt_none (put c.args.v.0) c.as_slice-leaves.result.now _ c.none-out.ensures
 
 pub push-requires : goal.push-requires
-push-requires c = let (a, e, _) = c.loop-k.invariant in front_room a e (omega arith)
+push-requires c =
+    let six : length c.args.self.places ≡ 6 = search (rules, length_held) in
+    rebuilt_room c.args.self six c.as_slice-leaves.ensures c.loop-k.invariant c.loop-k-test.true
 
 pub follow-requires : goal.follow-requires
 follow-requires c =
-    let (a, e, _) = c.loop-k.invariant in
-    (pushed_tidy a e _ c.push.ensures (omega arith), c.requires, omega arith)
+    let six : length c.args.self.places ≡ 6 = search (rules, length_held) in
+    let (tidy, room) = rebuilt_room c.args.self six c.as_slice-leaves.ensures c.loop-k.invariant c.loop-k-test.true in
+    pushed_tidy _ tidy room c.push.ensures
 
-pub returns-then-v-x : goal.returns-then-v-x
-returns-then-v-x c =
-    let leaves = leaf_list c.args.self in
-    let (a, e, p) = c.loop-k.invariant in
-    let under : c.args.v.0 < get_or leaves c.loop-k.k 0 = omega (arith, next_leaf a (omega arith)) in
-    c.follow.ensures ∙ rw (pushed_list a e _ c.push.ensures, put_before _ leaves _ (omega arith) under p)
+pub returns-then-lt : goal.returns-then-lt
+returns-then-lt c =
+    let leaves = c.as_slice-leaves.result.now in
+    let k = c.loop-k.k in
+    let six : length c.args.self.places ≡ 6 = search (rules, length_held) in
+    let (tidy, room) = rebuilt_room c.args.self six c.as_slice-leaves.ensures c.loop-k.invariant c.loop-k-test.true in
+    let under : c.args.v.0 < (get_or leaves k (record { 0 = 0 })).0 = search (rules, tests) in
+    let whole = rebuilt_whole c.args.self c.as_slice-leaves.ensures c.loop-k.invariant _ (put_before c.args.v.0 leaves k c.loop-k-test.true under) in
+    c.follow.ensures ∙ rw (pushed_list _ tidy room c.push.ensures, take_rest leaves k, append_assoc) (ap grown_of whole)
 
-pub follow-requires-then-v-x-2 : goal.follow-requires-then-v-x-2
-follow-requires-then-v-x-2 c =
-    let (a, e, _) = c.loop-k.invariant in
-    (front_tidy a e, c.requires, omega arith)
-
-pub returns-then-v-x-2 : goal.returns-then-v-x-2
-returns-then-v-x-2 c =
-    let leaves = leaf_list c.args.self in
-    let (a, e, p) = c.loop-k.invariant in
-    let same : c.args.v.0 ≡ get_or leaves c.loop-k.k 0 = omega (arith, next_leaf a (omega arith)) in
-    c.follow-then-v-x-2.ensures ∙ rw (front_list a e, put_already _ leaves _ (omega arith) same p)
+pub returns-then-eq : goal.returns-then-eq
+returns-then-eq c =
+    let leaves = c.as_slice-leaves.result.now in
+    let k = c.loop-k.k in
+    let same : c.args.v.0 ≡ (get_or leaves k (record { 0 = 0 })).0 = search (rules, tests) in
+    let whole = rebuilt_whole c.args.self c.as_slice-leaves.ensures c.loop-k.invariant _ (put_already c.args.v.0 leaves k c.loop-k-test.true same) in
+    c.follow-then-eq.ensures ∙ rw (take_rest leaves k) (ap grown_of whole)
 
 pub push-out-requires : goal.push-out-requires
-push-out-requires c = let (a, e, _) = c.loop-k.invariant in front_room a e (omega arith)
+push-out-requires c =
+    let six : length c.args.self.places ≡ 6 = search (rules, length_held) in
+    rebuilt_room c.args.self six c.as_slice-leaves.ensures c.loop-k.invariant c.loop-k-test.true
 
 pub loop-k-preserved : goal.loop-k-preserved
 loop-k-preserved c =
-    let leaves = leaf_list c.args.self in
-    let (a, e, p) = c.loop-k.invariant in
-    let x = next_leaf a (omega arith) in
-    let over : get_or leaves c.loop-k.k 0 < c.args.v.0 = omega arith in
-    let set-down = front_more a e _ c.push-out.ensures (omega arith) x in
-    (along_more a (omega arith), set-down, put_more _ leaves _ (omega arith) over p)
-
-pub returns-then-n-eq-LEAF_LIMIT : goal.returns-then-n-eq-LEAF_LIMIT
-returns-then-n-eq-LEAF_LIMIT c =
-    let (a, e, p) = c.loop-k.invariant in
-    c.none.ensures ∙ sym (fits_not _ (omega (arith, put_end_long _ (leaf_list c.args.self) c.loop-k.k (omega arith) p)))
-
-pub push-last-requires : goal.push-last-requires
-push-last-requires c = let (a, e, _) = c.loop-k.invariant in front_room a e (omega arith)
+    let leaves = c.as_slice-leaves.result.now in
+    let k = c.loop-k.k in
+    let six : length c.args.self.places ≡ 6 = search (rules, length_held) in
+    let (tidy, room) = rebuilt_room c.args.self six c.as_slice-leaves.ensures c.loop-k.invariant c.loop-k-test.true in
+    let over : (get_or leaves k (record { 0 = 0 })).0 < c.args.v.0 = search (rules, tests) in
+    rebuilt_more _ c.loop-k.invariant room c.push-out.ensures (put_after c.args.v.0 leaves k c.loop-k-test.true over)
 
 pub returns : goal.returns
+unfolding numbers
 returns c =
-    let leaves = leaf_list c.args.self in
-    let (a, e, p) = c.loop-k.invariant in
-    rw (front_pushed a e _ c.push-last.ensures, put_end _ leaves c.loop-k.k (omega arith) p)
-    (sym (fits _ (omega (arith, put_end_long _ leaves c.loop-k.k (omega arith) p))))
+    let leaves = c.as_slice-leaves.result.now in
+    let whole = rebuilt_whole c.args.self c.as_slice-leaves.ensures c.loop-k.invariant _ (put_end c.args.v.0 leaves c.loop-k.k c.loop-k-test.false) in
+    c.follow-2.ensures ∙ ap grown_of whole

@@ -1,11 +1,7 @@
--- What the loop keeps, and how far it has to go.
-use Prim.Native.Nat.{◌-◌}
+-- The leaves before k are set down anew.
 use Rattle.window.specs.LeafRule.{remove}
 use Rattle.window.proofs.Along.{Rebuilt}
 use Rattle.window.proofs.leaf_set.Leaves.remove.Given as goal
 
 abbrev pub invariant-loop-k : goal.invariant-loop-k
-invariant-loop-k l = Rebuilt (remove l.v.0) l.self l.n l.out l.k
-
-abbrev pub decreases-loop-k : goal.decreases-loop-k
-decreases-loop-k l = l.n - l.k
+invariant-loop-k l = Rebuilt (remove l.v.0) l.leaves l.out l.k
