@@ -1,9 +1,9 @@
 // A graph as a caller lends it: any words whatever. What it means is a `Graph` of specs/Graph.antt, which every contract speaks of.
 ghost use Rattle.std.specs.Prelude.{◌≡◌, ◌≤◌};
-ghost use Rattle.graph.specs.Graph.{graph_of, free, size, last, sinks, most_inputs, first, second, IsGate};
+ghost use Rattle.graph.specs.Graph.{graph_of, free, size, last, sinks, most_inputs, WellFormed, WellFormedNet};
 
-use crate::gate::Fanins;
-use crate::lit::{Lit, Var};
+use crate::checked::CheckedGraph;
+use crate::net::Net;
 use std::marker::Model;
 
 #[derive(Drop)]
@@ -67,17 +67,19 @@ impl<'a> LentGraph<'a> {
         self.inputs + self.gates.len() / 2
     }
 
-    // The two literals of v's gate: here a word becomes a literal.
-    #[tactic(auto, unfolding(crate::specs::Graph::first, crate::specs::Graph::second))]
-    pub fn fanins_of(&self, v: Var) -> Fanins
-        requires { (free self.now.net ≤ most_inputs) × IsGate self.now.net v.0 }
-        ensures first_value { result.first.0 ≡ first self.now.net v.0 }
-        ensures second_value { result.second.0 ≡ second self.now.net v.0 }
+    // The same graph, which is well formed.
+    pub fn checked(&self) -> CheckedGraph<'a>
+        requires { WellFormed self.now }
+        ensures { result ≡ self.now }
     {
-        let at = 2 * (v.at() - (self.inputs + 1));
-        Fanins {
-            first: Lit(self.gates[at]),
-            second: Lit(self.gates[at + 1]),
-        }
+        CheckedGraph::new(self.inputs, self.gates, self.outputs)
+    }
+
+    // Its inputs and gates, which keep the rules.
+    pub fn net(&self) -> Net<'a>
+        requires { WellFormedNet self.now.net }
+        ensures { result ≡ self.now.net }
+    {
+        Net::new(self.inputs, self.gates)
     }
 }

@@ -1,0 +1,70 @@
+// The inputs and gates of a lent graph, where they keep the rules: whoever has a net knows that they do.
+ghost use Rattle.std.specs.Prelude.{◌≡◌};
+ghost use Rattle.graph.specs.Graph.{net_of, free, size, last, first, second, IsGate, WellFormedNet};
+
+use crate::gate::Fanins;
+use crate::lit::{Lit, Var};
+use std::marker::Model;
+
+#[derive(Drop)]
+pub struct Net<'a> {
+    inputs: usize,
+    gates: &'a [u32],
+}
+
+impl<'a> Model for Net<'a> {
+    ghost use Rattle.graph.specs.Graph.{Net, net_of, WellFormedNet};
+
+    ghost Value = { Net };
+
+    ghost view = { λ a. net_of a.inputs a.gates.now };
+
+    ghost invariant = { λ a. WellFormedNet (net_of a.inputs a.gates.now) };
+}
+
+impl<'a> Net<'a> {
+    pub(crate) fn new(inputs: usize, gates: &'a [u32]) -> Net<'a>
+        requires { WellFormedNet (net_of inputs gates.now) }
+        ensures { result ≡ net_of inputs gates.now }
+    {
+        Net { inputs, gates }
+    }
+
+    pub fn inputs(&self) -> usize
+        ensures value { result ≡ free self.now }
+        ensures well_formed { WellFormedNet self.now }
+    {
+        self.inputs
+    }
+
+    // How many gates it has.
+    pub fn size(&self) -> usize
+        ensures value { result ≡ size self.now }
+        ensures well_formed { WellFormedNet self.now }
+    {
+        self.gates.len() / 2
+    }
+
+    // Its highest variable's number.
+    pub fn last(&self) -> usize
+        ensures value { result ≡ last self.now }
+        ensures well_formed { WellFormedNet self.now }
+    {
+        self.inputs + self.gates.len() / 2
+    }
+
+    // The two literals of v's gate: here a word becomes a literal.
+    #[tactic(auto, unfolding(crate::specs::Graph::first, crate::specs::Graph::second))]
+    pub fn fanins_of(&self, v: Var) -> Fanins
+        requires { IsGate self.now v.0 }
+        ensures first_value { result.first.0 ≡ first self.now v.0 }
+        ensures second_value { result.second.0 ≡ second self.now v.0 }
+        ensures well_formed { WellFormedNet self.now }
+    {
+        let at = 2 * (v.at() - (self.inputs + 1));
+        Fanins {
+            first: Lit(self.gates[at]),
+            second: Lit(self.gates[at + 1]),
+        }
+    }
+}
