@@ -13,8 +13,8 @@ use Rattle.checker.proofs.usage.count_marks.Goals.{After-has_mark}
 
 -- one gate more is counted
 more : (c : After-has_mark) → c.loop-k.found + bool_byte c.has_mark.result
-    ≡ count_marks c.args.graph.now.net (marks_in c.args.marks.now) (c.loop-k.k + 1)
-more c = rw (c.has_mark.ensures, c.inputs.ensures, c.loop-k.invariant) (count_more _ _ _)
+    ≡ count_marks c.args.net.now (marks_in c.args.marks.now) (c.loop-k.k + 1)
+more c = rw (c.has_mark.ensures, c.inputs.ensures.value, c.loop-k.invariant) (count_more _ _ _)
 
 pub loop-k-init : goal.loop-k-init
 unfolding count_marks
@@ -22,7 +22,7 @@ loop-k-init c = refl
 
 pub overflow_add-found : goal.overflow_add-found
 overflow_add-found c =
-    let few = count_most c.args.graph.now.net (marks_in c.args.marks.now) (c.loop-k.k + 1) in
+    let few = count_most c.args.net.now (marks_in c.args.marks.now) (c.loop-k.k + 1) in
     omega (arith, more (goal.at.overflow_add-found c).After-has_mark)
 
 pub loop-k-preserved : goal.loop-k-preserved

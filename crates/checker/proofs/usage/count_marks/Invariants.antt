@@ -5,4 +5,4 @@ use Rattle.checker.specs.Marks.{marks_in}
 use Rattle.checker.proofs.usage.count_marks.Given as goal
 
 abbrev pub invariant-loop-k : goal.invariant-loop-k
-invariant-loop-k l = l.found ≡ count_marks l.graph.net (marks_in l.marks) l.k
+invariant-loop-k l = l.found ≡ count_marks l.net (marks_in l.marks) l.k

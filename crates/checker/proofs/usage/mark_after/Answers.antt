@@ -10,14 +10,13 @@ use Rattle.checker.proofs.usage.mark_after.Goals as goal
 
 pub mark_fanins-requires : goal.mark_fanins-requires
 mark_fanins-requires c = (
-  c.requires.0,
   record { above = omega arith; within = omega arith },
   omega (arith, marks_length c.loop-k.marks, marks_length c.args.marks.now),
 )
 
 pub loop-k-preserved : goal.loop-k-preserved
 loop-k-preserved c =
-    let net = c.args.graph.now.net in
+    let net = c.args.net.now in
     let v : c.inputs.result + (c.loop-k.k - 1) + 1 ≡ free net + c.loop-k.k = omega arith in
     let marked = rw v at c.mark_fanins.ensures in
     ap (mark_after net c.args.stop (c.loop-k.k - 1 - c.args.stop)) marked
@@ -26,4 +25,4 @@ loop-k-preserved c =
 
 pub returns : goal.returns
 returns c =
-    sym (after_end c.args.graph.now.net c.args.stop c.loop-k.k (marks_in c.loop-k.marks) (omega arith)) ∙ c.loop-k.invariant
+    sym (after_end c.args.net.now c.args.stop c.loop-k.k (marks_in c.loop-k.marks) (omega arith)) ∙ c.loop-k.invariant

@@ -6,4 +6,4 @@ use Rattle.checker.proofs.usage.mark_after.Given as goal
 
 abbrev pub invariant-loop-k : goal.invariant-loop-k
 invariant-loop-k l =
-    mark_after l.graph.net l.stop (l.k - l.stop) (marks_in l.marks) ≡ mark_after l.graph.net l.stop (l.from - l.stop) (marks_in l.initial.marks)
+    mark_after l.net l.stop (l.k - l.stop) (marks_in l.marks) ≡ mark_after l.net l.stop (l.from - l.stop) (marks_in l.initial.marks)

@@ -10,13 +10,13 @@ use Rattle.checker.proofs.usage.mark_fanins.Goals as goal
 
 pub put_mark-requires : goal.put_mark-requires
 put_mark-requires c =
-    let lower = first_lower _ c.requires.0.lawful c.args.v.0 c.requires.1 in
+    let lower = first_lower _ c.fanins_of-gate.ensures.well_formed.lawful c.args.v.0 c.requires.0 in
     omega (arith, c.var.ensures, c.fanins_of-gate.ensures.first_value)
 
 pub put_mark-requires-then-has_mark : goal.put_mark-requires-then-has_mark
 put_mark-requires-then-has_mark c =
-    let low = first_lower _ c.requires.0.lawful c.args.v.0 c.requires.1 in
-    let lower = second_lower _ c.requires.0.lawful c.args.v.0 c.requires.1 in
+    let low = first_lower _ c.fanins_of-gate.ensures.well_formed.lawful c.args.v.0 c.requires.0 in
+    let lower = second_lower _ c.fanins_of-gate.ensures.well_formed.lawful c.args.v.0 c.requires.0 in
     omega (arith, c.var-then-has_mark.ensures, c.fanins_of-gate.ensures, marks_length c.args.marks.now, marks_length c.put_mark.new.marks)
 
 pub returns-then-has_mark : goal.returns-then-has_mark

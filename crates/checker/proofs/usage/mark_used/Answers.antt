@@ -3,7 +3,7 @@
 use mathlib.Core.Path.{ap, ◌∙◌}
 use native.Mathlib.Omega.{arith}
 use lib.ListN.{length}
-use Rattle.graph.proofs.Graph.{net_well_formed, sinks_below}
+use Rattle.graph.proofs.Graph.{sinks_below}
 use Rattle.graph.proofs.Marks.{each_length}
 use Rattle.checker.specs.Marks.{marks_in}
 use Rattle.checker.proofs.Marking.{marks_made}
@@ -11,16 +11,16 @@ use Rattle.checker.proofs.usage.mark_used.Goals as goal
 
 pub mark_each-requires : goal.mark_each-requires
 mark_each-requires c =
-    let (ok, few) = c.requires.well_formed in rw c.outputs.ensures (sinks_below c.args.graph.now ok.lawful _ few)
+    rw c.outputs.ensures.value (sinks_below c.args.graph.now c.outputs.ensures.well_formed.lawful _ c.requires.marks_there)
 
 pub mark_after-requires : goal.mark_after-requires
 mark_after-requires c =
-    let (ok, few) = c.requires.well_formed in
     let long = ap length c.mark_each.ensures ∙ each_length c.outputs.result.now (marks_in c.args.marks.now) in
-    (net_well_formed c.args.graph.now ok, omega arith, omega arith, omega (arith, long, few))
+    let room = rw (← c.net-net.ensures.value) at c.requires.marks_there in
+    (omega arith, omega arith, omega (arith, long, room))
 
 pub returns : goal.returns
 returns c =
-    let outs = rw c.outputs.ensures at c.mark_each.ensures in
-    let done = rw c.size.ensures at c.mark_after.ensures in
+    let outs = rw c.outputs.ensures.value at c.mark_each.ensures in
+    let done = rw (c.size.ensures.value, c.net-net.ensures.value) at c.mark_after.ensures in
     marks_made c.args.graph.now (length (marks_in c.args.marks.now)) c.requires.marks_value outs done
