@@ -56,7 +56,7 @@ pub fn evaluate(graph: &LentGraph, assignment: &[u32], values: &mut [u32]) -> Re
 {
     evaluate_verdict(graph, assignment, values)?;
     let mut known = [false; MOST_VARIABLES];
-    sweep(graph, assignment, &mut known);
+    sweep(&graph.net(), assignment, &mut known);
     put_values(graph.outputs(), &known, values);
     Ok(graph.outputs().len())
 }

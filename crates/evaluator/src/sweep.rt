@@ -2,12 +2,12 @@
 ghost use Rattle.std.specs.Prelude.{◌≡◌, ◌<◌, ◌≤◌, length};
 ghost use Rattle.graph.specs.Literal.{var_of};
 ghost use Rattle.graph.specs.Lent.{written};
-ghost use Rattle.graph.specs.Graph.{free, last, IsGate, WellFormedNet};
+ghost use Rattle.graph.specs.Graph.{free, last, IsGate};
 ghost use Rattle.graph.specs.Sweep.{bools, lit_value, by_gate};
 ghost use Rattle.graph.specs.Evaluate.{assignment_of, values_under};
 ghost use Rattle.evaluator.specs.Values.{input_values};
 
-use graph::{LentGraph, Lit, Var};
+use graph::{Lit, Net, Var};
 
 // The value of a literal, where `known` has the values of the variables from 0 on.
 #[tactic(auto, unfolding(graph::specs::Sweep::lit_value, graph::specs::Sweep::bools))]
@@ -21,11 +21,11 @@ pub fn literal_value(known: &[bool], l: Lit) -> bool
 
 // The value of gate v, where `known` has the values below it.
 #[tactic(auto, using(graph::proofs::Sweep::by_gate_gate), unfolding(graph::specs::Sweep::bools))]
-fn gate_value(graph: &LentGraph, known: &[bool], v: Var) -> bool
-    requires { WellFormedNet graph.now.net × IsGate graph.now.net v.0 × (v.0 ≤ length known.now) }
-    ensures { result ≡ by_gate bools graph.now.net v.0 known.now }
+fn gate_value(net: &Net, known: &[bool], v: Var) -> bool
+    requires { IsGate net.now v.0 × (v.0 ≤ length known.now) }
+    ensures { result ≡ by_gate bools net.now v.0 known.now }
 {
-    let gate = graph.fanins_of(v);
+    let gate = net.fanins_of(v);
     literal_value(known, gate.first) & literal_value(known, gate.second)
 }
 
@@ -41,15 +41,13 @@ fn put_inputs(assignment: &[u32], known: &mut [bool])
 }
 
 // The values of all variables stand at the front of `known`, from variable 0 on.
-pub fn sweep(graph: &LentGraph, assignment: &[u32], known: &mut [bool])
-    requires { WellFormedNet graph.now.net × (length assignment.now ≡ free graph.now.net)
-        × (last graph.now.net < length known.old) }
-    ensures { known.new
-        ≡ written (values_under graph.now.net (assignment_of assignment.now) (last graph.now.net)) known.old }
+pub fn sweep(net: &Net, assignment: &[u32], known: &mut [bool])
+    requires { (length assignment.now ≡ free net.now) × (last net.now < length known.old) }
+    ensures { known.new ≡ written (values_under net.now (assignment_of assignment.now) (last net.now)) known.old }
 {
     put_inputs(assignment, known);
-    for n in graph.inputs()..graph.last() {
+    for n in net.inputs()..net.last() {
         let v = Var(n as u32 + 1);
-        known[v.at()] = gate_value(graph, known, v);
+        known[v.at()] = gate_value(net, known, v);
     }
 }

@@ -8,10 +8,15 @@ use Rattle.evaluator.proofs.Evaluating.{evaluates_nothing, fine_means, evaluates
 use Rattle.evaluator.proofs.evaluate.Goals as goal
 
 -- past the refusals the graph is well formed, the values are one an input, and there is room for the outputs'
+pub net-requires : goal.net-requires
+net-requires c =
+    let ok = fine_means _ _ _ c.evaluate_verdict.ensures c.in_ok-evaluate_verdict.was in
+    net_well_formed _ ok.0
+
 pub sweep-requires : goal.sweep-requires
 sweep-requires c =
     let ok = fine_means _ _ _ c.evaluate_verdict.ensures c.in_ok-evaluate_verdict.was in
-    (net_well_formed _ ok.0, ok.1, omega arith)
+    rw c.net.ensures (ok.1, omega arith)
 
 pub put_values-requires : goal.put_values-requires
 put_values-requires c =
@@ -27,4 +32,4 @@ pub returns : goal.returns
 returns c =
     let put = rw c.outputs.ensures at c.put_values.ensures in
     rw c.outputs-2.ensures
-    (evaluates_outputs _ _ _ c.evaluate_verdict.ensures c.in_ok-evaluate_verdict.was _ c.sweep.ensures put)
+    (evaluates_outputs _ _ _ c.evaluate_verdict.ensures c.in_ok-evaluate_verdict.was _ (rw c.net.ensures at c.sweep.ensures) put)

@@ -29,7 +29,7 @@ swept_next net a lent known n x ok g h room e f =
 
 pub loop-n-preserved : goal.loop-n-preserved
 loop-n-preserved c = λ lent same e. rw c.at.ensures
-    (swept_next _ _ lent c.loop-n.known c.loop-n.n c.gate_value.result c.requires.0 (omega arith)
+    (swept_next _ _ lent c.loop-n.known c.loop-n.n c.gate_value.result c.last-n-end.ensures.well_formed (omega arith)
     (omega arith) (omega arith) (c.loop-n.invariant lent same e) c.gate_value.ensures)
 
 pub returns : goal.returns
@@ -37,8 +37,8 @@ unfolding values_under
 returns c =
     let a = c.args in
     let put = c.put_inputs in
-    let net = a.graph.now.net in
+    let net = a.net.now in
     let all : c.loop-n.n ≡ last net = omega arith in
-    let first = sym (starts_with_inputs net a.assignment.now c.requires.1) in
+    let first = sym (starts_with_inputs net a.assignment.now c.requires.0) in
     c.loop-n.invariant a.known.now (sym put.auto.known) (put.ensures ∙ ap (λ (bs : List Bool). written bs a.known.now) first)
     ∙ ap (swept net (assignment_of a.assignment.now) a.known.now) all

@@ -17,5 +17,5 @@ swept net a lent n = Swept bools (assigned net a) net lent n
 -- the list as it was lent is past once the inputs have their values, so the invariant speaks of any list that this gives
 abbrev pub invariant-loop-n : goal.invariant-loop-n
 invariant-loop-n l = (lent : List Bool) → length lent ≡ length l.initial.known
-    → l.initial.known ≡ swept l.graph.net (assignment_of l.assignment) lent l.graph.net.inputs
-    → l.known ≡ swept l.graph.net (assignment_of l.assignment) lent l.n
+    → l.initial.known ≡ swept l.net (assignment_of l.assignment) lent l.net.inputs
+    → l.known ≡ swept l.net (assignment_of l.assignment) lent l.n
