@@ -174,3 +174,9 @@ pub all_by_std : {A : Type 0} (f : A → Bool) (xs : List A) → all f xs ≡ li
 unfolding all
 all_by_std f [] = refl
 all_by_std f (x ∷ xs) = ap (λ b. f x && b) (all_by_std f xs)
+
+-- what is read within a list is read whatever is given past its end
+pub get_or_within : {A : Type 0} (xs : List A) (i : ℕ) (d e : A) → i < length xs → get_or xs i d ≡ get_or xs i e
+get_or_within [] i d e h = absurd (omega arith)
+get_or_within (x ∷ xs) zero d e h = refl
+get_or_within (x ∷ xs) (suc i) d e h = get_or_within xs i d e (omega arith)

@@ -1,6 +1,7 @@
 // What a graph is and means: literals and variables, lent graphs, the limits, and why a call refuses.
 #![tactic(auto)]
 
+mod algebra;
 mod checked;
 mod gate;
 mod lent_graph;
@@ -9,6 +10,7 @@ mod lit;
 mod net;
 mod refusal;
 
+pub use algebra::{Algebra, gate_value, literal_value};
 pub use checked::CheckedGraph;
 pub use gate::Fanins;
 pub use lent_graph::LentGraph;
