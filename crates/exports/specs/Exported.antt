@@ -12,7 +12,7 @@ use Rattle.window.specs.declared.leaf_set.Leaves.{Leaves}
 use Rattle.window.specs.Leaves.{variables}
 use Rattle.window.specs.Calls.{pick_answer, pick_outcome, table_answer, table_outcome}
 use Rattle.replacement.specs.declared.types.Proposal.{Proposal}
-use Rattle.replacement.specs.declared.types.Finished.{Finished}
+use Rattle.replacement.specs.declared.types.Applied.{Applied}
 use Rattle.replacement.specs.Calls.{apply_effect, applied_outcome}
 
 abbrev pub reads : List ℕ → List ℕ → List ℕ → Effect (Result Counts Refusal) Buffers
@@ -48,7 +48,7 @@ abbrev pub proposal_by : ℕ → ℕ → ℕ → ℕ → Proposal
 proposal_by kind first second turned =
     record { kind = kind; first = record { 0 = first }; second = record { 0 = second }; turned = turned }
 
-abbrev pub applies : ℕ → List ℕ → List ℕ → ℕ → Leaves → Proposal → List ℕ → List ℕ → Effect (Result Finished Refusal) Buffers
+abbrev pub applies : ℕ → List ℕ → List ℕ → ℕ → Leaves → Proposal → List ℕ → List ℕ → Effect (Result Applied Refusal) Buffers
 applies inputs gates outputs root w p words results = apply_effect (graph_of inputs gates outputs) root w p (buffers_of words results)
 
 abbrev pub applied_numbers : ℕ → List ℕ → List ℕ → ℕ → Leaves → Proposal → List ℕ → List ℕ → Outcome

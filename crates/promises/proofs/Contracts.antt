@@ -21,7 +21,7 @@ use Rattle.window.specs.declared.leaf_set.Leaves.{Leaves}
 use Rattle.window.specs.declared.truth.Table.{Table}
 use Rattle.window.specs.Calls.{pick_answer, Window, table_answer}
 use Rattle.replacement.specs.declared.types.Proposal.{Proposal}
-use Rattle.replacement.specs.declared.types.Finished.{Finished}
+use Rattle.replacement.specs.declared.types.Applied.{Applied}
 use Rattle.replacement.specs.Rewire.{finished}
 use Rattle.replacement.specs.Calls.{GoodProposal, apply_effect, applied_outcome}
 use Rattle.promises.specs.Promises.{ReadAs, EvaluatedAs, PickedAs, TableAs, AppliedAs, read_back, graph_in}
@@ -61,7 +61,7 @@ pub table_has_one_result : (g : Graph) (root : ℕ) (w : Leaves) (t u : Result T
     → t ≡ u
 table_has_one_result g root w t u a b = a ∙ sym b
 
-pub apply_has_one_result : (g : Graph) (root : ℕ) (w : Leaves) (p : Proposal) (b : Buffers) (r s : Result Finished Refusal) (x y : Buffers)
+pub apply_has_one_result : (g : Graph) (root : ℕ) (w : Leaves) (p : Proposal) (b : Buffers) (r s : Result Applied Refusal) (x y : Buffers)
     → r leaving x ≡ apply_effect g root w p b → s leaving y ≡ apply_effect g root w p b
     → (r ≡ s) × (x ≡ y)
 apply_has_one_result g root w p b = one_effect
@@ -84,7 +84,7 @@ window_was_tabled g root w t met known = subst⁻¹ (TableAs g root w) met (wind
 
 -- ---- what applying accepts
 
-counts : Result Finished Refusal → ℕ × ℕ
+counts : Result Applied Refusal → ℕ × ℕ
 counts (Ok n) = (n.gates, n.outputs)
 counts (Err r) = (0, 0)
 
@@ -92,17 +92,17 @@ same_parts : {i i' : ℕ} {gs gs' os os' : List ℕ} → i ≡ i' → gs ≡ gs'
 same_parts p q r = rw (p, q, r)
 
 -- r and after are what applying p at the root over w with b lent came to
-module _ (g : Graph) (root : ℕ) (w : Leaves) (p : Proposal) (b after : Buffers) (r : Result Finished Refusal)
+module _ (g : Graph) (root : ℕ) (w : Leaves) (p : Proposal) (b after : Buffers) (r : Result Applied Refusal)
     (met : r leaving after ≡ apply_effect g root w p b) where
   -- a good proposal is applied, where there is room for the graph that it makes
   pub good_was_applied : GoodProposal g root w p → RoomFor (finished g root p) b → AppliedAs g (finished g root p) b (r leaving after)
   good_was_applied good room = subst⁻¹ (AppliedAs g (finished g root p) b) met (good_is_applied g root w p b good room)
 
   -- and nothing else is
-  module _ (n : Finished) (accepted : r ≡ Ok n) where
+  module _ (n : Applied) (accepted : r ≡ Ok n) where
     applied_number : (applied_outcome (apply_effect g root w p b).answer).number ≡ 0
     unfolding applied_outcome
-    applied_number = ap (λ (e : Effect (Result Finished Refusal) Buffers). (applied_outcome e.answer).number) (sym met) ∙ rw accepted
+    applied_number = ap (λ (e : Effect (Result Applied Refusal) Buffers). (applied_outcome e.answer).number) (sym met) ∙ rw accepted
 
     applied_was_good : GoodProposal g root w p × AppliedAs g (finished g root p) b (r leaving after)
     applied_was_good =
@@ -113,7 +113,7 @@ module _ (g : Graph) (root : ℕ) (w : Leaves) (p : Proposal) (b after : Buffers
     unfolding counts
     counts_are =
         let same = sym accepted ∙ applied_was_good.1.counts_told in
-        (ap (λ (x : Result Finished Refusal). (counts x).0) same, ap (λ (x : Result Finished Refusal). (counts x).1) same)
+        (ap (λ (x : Result Applied Refusal). (counts x).0) same, ap (λ (x : Result Applied Refusal). (counts x).1) same)
 
     -- what the lent lists hold is the finished graph
     held_is : graph_in g.net.inputs n.gates n.outputs after ≡ finished g root p

@@ -19,12 +19,12 @@ use Rattle.window.specs.Table.{bit, patterns, table}
 use Rattle.window.specs.LeafRule.{picked}
 use Rattle.window.specs.Calls.{Window}
 use Rattle.replacement.specs.declared.types.Proposal.{Proposal}
-use Rattle.replacement.specs.declared.types.Finished.{Finished}
+use Rattle.replacement.specs.declared.types.Applied.{Applied}
 use Rattle.replacement.specs.Rewire.{finished}
 use Rattle.replacement.specs.Calls.{GoodProposal}
 use Rattle.listing.specs.declared.Candidate.{Candidate}
 use Rattle.listing.specs.declared.NotListed.{NotListed}
-use Rattle.run.specs.declared.Finished as ran
+use Rattle.run.specs.declared.Ran.{Ran}
 use Rattle.run.specs.Run.{NoneAt}
 use Rattle.run.specs.Calls.{RunBuffers}
 
@@ -111,7 +111,7 @@ pub record NoRoomToList (xs lent : List Candidate) (e : Effect (Result ℕ NotLi
   pub unchanged : e.lent ≡ lent
 
 -- a replacement made h of g
-pub record AppliedAs (g h : Graph) (b : Buffers) (e : Effect (Result Finished Refusal) Buffers) : Type 0 where
+pub record AppliedAs (g h : Graph) (b : Buffers) (e : Effect (Result Applied Refusal) Buffers) : Type 0 where
   pub counts_told : e.answer ≡ Ok (record { gates = size h.net; outputs = length h.outputs })
   pub holds : Holds h b e.lent
   pub keeps : Keeps g h
@@ -119,7 +119,7 @@ pub record AppliedAs (g h : Graph) (b : Buffers) (e : Effect (Result Finished Re
   pub fewer : used_gates h < used_gates g
 
 -- a run came from g to h by so many replacements
-pub record RanAs (g h : Graph) (made : ℕ) (b : RunBuffers) (e : Effect (Result ran.Finished Refusal) RunBuffers) : Type 0 where
+pub record RanAs (g h : Graph) (made : ℕ) (b : RunBuffers) (e : Effect (Result Ran Refusal) RunBuffers) : Type 0 where
   pub counts_told : e.answer ≡ Ok (record { gates = size h.net; made = made })
   pub holds : RunHolds g h b e.lent
   pub keeps : Keeps g h
@@ -159,13 +159,13 @@ graph_in i a o b = graph_of i (take (2 * a) b.gates) (take o b.outputs)
 
 -- a proposal was applied to g, whatever came in: where it was accepted it was good, and the lent lists hold, over g's inputs, a graph
 -- that keeps each output's value and in which strictly fewer gates are in use
-abbrev pub AcceptedKeeps : Graph → ℕ → Leaves → Proposal → Buffers → Result Finished Refusal → Buffers → Type 0
+abbrev pub AcceptedKeeps : Graph → ℕ → Leaves → Proposal → Buffers → Result Applied Refusal → Buffers → Type 0
 AcceptedKeeps g root w p before r after =
-    (n : Finished) → r ≡ Ok n
+    (n : Applied) → r ≡ Ok n
     → GoodProposal g root w p × AppliedAs g (graph_in g.net.inputs n.gates n.outputs after) before (r leaving after)
 
 -- and the other way: a good one is accepted where there is room for what it makes
-abbrev pub GoodIsAccepted : Graph → ℕ → Leaves → Proposal → Buffers → Result Finished Refusal → Buffers → Type 0
+abbrev pub GoodIsAccepted : Graph → ℕ → Leaves → Proposal → Buffers → Result Applied Refusal → Buffers → Type 0
 GoodIsAccepted g root w p before r after =
     GoodProposal g root w p → RoomFor (finished g root p) before
     → AppliedAs g (finished g root p) before (r leaving after)

@@ -20,7 +20,7 @@ ghost use Rattle.promises.specs.Promises.{
 };
 
 use graph::{LentGraph, Refusal, Var};
-use replacement::{Finished, Proposal};
+use replacement::{Applied, Proposal};
 use text::Counts;
 use window::{Leaves, Table};
 
@@ -126,7 +126,7 @@ pub fn apply_proposal(
     proposal: Proposal,
     words: &mut [u32],
     results: &mut [u32],
-) -> Result<Finished, Refusal>
+) -> Result<Applied, Refusal>
     ensures results_after { result leaving buffers_of words.new results.new
         ≡ apply_effect graph.now root.0 leaves proposal
         (buffers_of words.old results.old) }

@@ -121,27 +121,29 @@ module _ (h : Header) (t : List ℕ) where
   unfolding lines_needed joined sections
   lines_are = ap (λ (needs : List Needed). read_lines (inputs_needed h ++ (outputs_needed h ++ needs)) t) (append-nil (gates_needed h))
 
-  pub inputs_wrong : {r : Refusal} → read_words no_words (inputs_needed h) t ≡ Words.wrong r → read_body h t ≡ refuses r
+  pub inputs_wrong : {r : Refusal} → Words.wrong r ≡ read_words no_words (inputs_needed h) t → refuses r ≡ read_body h t
   unfolding Tells
-  inputs_wrong e = body_wrong h t (lines_are ∙ (rw e at (tells no_words (inputs_needed h) t)) (outputs_needed h ++ gates_needed h))
+  inputs_wrong e =
+      sym (body_wrong h t (lines_are ∙ (rw (sym e) at (tells no_words (inputs_needed h) t)) (outputs_needed h ++ gates_needed h)))
 
-  module _ {vs u : List ℕ} (inputs : read_words no_words (inputs_needed h) t ≡ words vs u) where
+  module _ {vs u : List ℕ} (inputs : words vs u ≡ read_words no_words (inputs_needed h) t) where
     after_inputs : Passed no_words (inputs_needed h) t vs u
     unfolding Tells
-    after_inputs = rw inputs at (tells no_words (inputs_needed h) t)
+    after_inputs = rw (sym inputs) at (tells no_words (inputs_needed h) t)
 
-    pub outputs_wrong : {r : Refusal} → read_words output_words (outputs_needed h) u ≡ Words.wrong r → read_body h t ≡ refuses r
+    pub outputs_wrong : {r : Refusal} → Words.wrong r ≡ read_words output_words (outputs_needed h) u → refuses r ≡ read_body h t
     unfolding Tells with_lines
     outputs_wrong e =
-        body_wrong h t
+        sym
+        (body_wrong h t
         (lines_are
         ∙ after_inputs.go_on (outputs_needed h ++ gates_needed h)
-        ∙ ap (with_lines after_inputs.lines) ((rw e at (tells output_words (outputs_needed h) u)) (gates_needed h)))
+        ∙ ap (with_lines after_inputs.lines) ((rw (sym e) at (tells output_words (outputs_needed h) u)) (gates_needed h))))
 
-    module _ {os v : List ℕ} (outputs : read_words output_words (outputs_needed h) u ≡ words os v) where
+    module _ {os v : List ℕ} (outputs : words os v ≡ read_words output_words (outputs_needed h) u) where
       after_outputs : Passed output_words (outputs_needed h) u os v
       unfolding Tells
-      after_outputs = rw outputs at (tells output_words (outputs_needed h) u)
+      after_outputs = rw (sym outputs) at (tells output_words (outputs_needed h) u)
 
       -- the lines of both sections before others
       abbrev with_two : Lines → Lines
@@ -154,30 +156,31 @@ module _ (h : Header) (t : List ℕ) where
           ∙ ap (with_lines after_inputs.lines) (after_outputs.go_on (gates_needed h))
           ∙ ap (λ (needs : List Needed). with_two (read_lines needs v)) (sym (append-nil (gates_needed h)))
 
-      pub gates_wrong : {r : Refusal} → read_words gate_words (gates_needed h) v ≡ Words.wrong r → read_body h t ≡ refuses r
+      pub gates_wrong : {r : Refusal} → Words.wrong r ≡ read_words gate_words (gates_needed h) v → refuses r ≡ read_body h t
       unfolding Tells with_lines
       gates_wrong e =
-          body_wrong h t (lines_of_two ∙ ap with_two ((rw e at (tells gate_words (gates_needed h) v)) []))
+          sym (body_wrong h t (lines_of_two ∙ ap with_two ((rw (sym e) at (tells gate_words (gates_needed h) v)) [])))
 
-      module _ {gs w : List ℕ} (gates : read_words gate_words (gates_needed h) v ≡ words gs w) where
+      module _ {gs w : List ℕ} (gates : words gs w ≡ read_words gate_words (gates_needed h) v) where
         after_gates : Passed gate_words (gates_needed h) v gs w
         unfolding Tells
-        after_gates = rw gates at (tells gate_words (gates_needed h) v)
+        after_gates = rw (sym gates) at (tells gate_words (gates_needed h) v)
 
-        lines_of_three : (b : Bool) → skipped w ≡ b
+        lines_of_three : (b : Bool) → b ≡ skipped w
             → read_lines (lines_needed h) t ≡ with_two (with_lines after_gates.lines (cond b (right []) (Lines.wrong BadLine)))
         unfolding read_lines
-        lines_of_three b e = lines_of_two ∙ ap with_two (after_gates.go_on [] ∙ rw e)
+        lines_of_three b e = lines_of_two ∙ ap with_two (after_gates.go_on [] ∙ rw (sym e))
 
-        pub rest_wrong : skipped w ≡ false → read_body h t ≡ refuses BadLine
+        pub rest_wrong : false ≡ skipped w → refuses BadLine ≡ read_body h t
         unfolding with_lines
-        rest_wrong e = body_wrong h t (lines_of_three false e)
+        rest_wrong e = sym (body_wrong h t (lines_of_three false e))
 
-        pub all_right : skipped w ≡ true → read_body h t ≡ yields (graph_of h.inputs gs os)
+        pub all_right : true ≡ skipped w → yields (graph_of h.inputs gs os) ≡ read_body h t
         unfolding with_lines
         all_right e =
-            body_right h t (lines_of_three true e)
+            sym
+            (body_right h t (lines_of_three true e)
             ∙ ap yields
             (graph_of_sections_lem h after_inputs.lines after_outputs.lines after_gates.lines
             after_inputs.count after_outputs.count after_gates.count
-            ∙ ap₂ (graph_of h.inputs) after_gates.words_are after_outputs.words_are)
+            ∙ ap₂ (graph_of h.inputs) after_gates.words_are after_outputs.words_are))

@@ -1,22 +1,23 @@
 -- A section is read a line at a time: what one more line gives, and that a line that is not right decides for the whole section.
 -- Assumes nothing.
 use mathlib.Core.Path.{◌≡◌, refl, sym, ap, ◌∙◌}
-use mathlib.Core.Bool.{Bool, true, false, cond}
+use mathlib.Core.Bool.{Bool, true, false}
 use mathlib.Core.List.{List, [], ◌∷◌, ◌++◌, append_assoc, append-nil}
 use mathlib.Core.Logic.{⊎_elim}
 use mathlib.Core.Option.{Option, none, some}
+use Rattle.std.specs.Prelude.{Option as Found, Some, None, Ok, Err, is_some}
 use Prim.Native.Nat.{ℕ, zero, suc, ◌+◌, ◌≤◌, ◌<◌}
 use native.Mathlib.Numerals.{add-one}
 use native.Mathlib.Omega.{arith}
+use lib.ListN.{drop}
 use Rattle.graph.specs.declared.refusal.Refusal.{Refusal}
 use Rattle.graph.specs.declared.refusal.Refusal.TheVariants.{BadLine, BadLiteral}
 use Rattle.graph.specs.Lists.{gather}
 use Rattle.graph.proofs.Lists.{at_most_or_above}
-use Rattle.graph.specs.declared.verdict.Verdict.{Verdict}
 use Rattle.text.specs.Number.{Front}
 use Rattle.text.specs.Line.{line_of}
 use Rattle.text.specs.Reading.{Needed}
-use Rattle.scanner.specs.Lines.{line_refusal}
+use Rattle.scanner.specs.Lines.{line_step, line_refusal}
 use Rattle.reader.specs.Sections.{Words, wrong, words, with_words, read_words}
 use Rattle.graph.specs.Refuse.{verdict_is}
 use Rattle.graph.proofs.Singles.{singles}
@@ -85,19 +86,21 @@ module _ (f : List ℕ → List ℕ) where
     unfolding gather and_more
     one_more k ws u e = read_append (singles need k) (need k ∷ []) t ∙ ap (and_more (need k ∷ [])) e
 
-  -- a line's words, unless it is refused
-  abbrev unless : Front (List ℕ) → Option Refusal → Words
-  unless x refusal = elim refusal [ none ↦ words (f x.got) x.rest | some r ↦ wrong r ]
+  -- one line that is misshapen or breaks its rule, and one that is right
+  module _ (need : Needed) (t ns u : List ℕ) where
+    one_wrong : (line : Found ℕ) (kept : Bool) (r : Refusal) → line_step t ns line ≡ line_of need.numbers u → kept ≡ need.rule ns
+        → some r ≡ line_refusal (is_some line) kept → read_words f (need ∷ []) u ≡ wrong r
+    unfolding read_words line_step line_refusal
+    one_wrong None kept r line rule why = rw (sym line, read_words) (cc)
+    one_wrong (Some next) true r line rule why = cc
+    one_wrong (Some next) false r line rule why = rw (sym line, sym rule, read_words) (cc)
 
-  -- one line, misshapen or not, with its rule kept or not
-  one_line : (need : Needed) (u : List ℕ) (found kept : Bool) (x : Front (List ℕ))
-      → cond found (some x) none ≡ line_of need.numbers u → kept ≡ need.rule x.got
-      → read_words f (need ∷ []) u ≡ unless x (line_refusal found kept)
-  unfolding read_words with_words line_refusal
-  one_line need u true true x line rule =
-      rw (sym line, sym rule, read_words) (ap (λ (vs : List ℕ). words vs x.rest) (append-nil (f x.got)))
-  one_line need u true false x line rule = rw (sym line, sym rule, read_words)
-  one_line need u false kept x line rule = rw (sym line, read_words)
+    one_right : (next : ℕ) (kept : Bool) → line_step t ns (Some next) ≡ line_of need.numbers u → kept ≡ need.rule ns
+        → none ≡ line_refusal true kept → read_words f (need ∷ []) u ≡ words (f ns) (drop next t)
+    unfolding read_words with_words line_step line_refusal
+    one_right next true line rule why =
+        rw (sym line, sym rule, read_words) (ap (λ (vs : List ℕ). words vs (drop next t)) (append-nil (f ns)))
+    one_right next false line rule why = cc
 
 -- the words of the first k lines, and the text after them
 pub record SoFar (f : List ℕ → List ℕ) (need : ℕ → Needed) (t : List ℕ) (k : ℕ) (ws rest : List ℕ) : Type 0 where
@@ -109,17 +112,22 @@ none_so_far = record { is = refl }
 
 -- line k as the code finds it, the test of its rule, and then the verdict on it
 module _ {f : List ℕ → List ℕ} {need : ℕ → Needed} {t : List ℕ} {k : ℕ} {ws here : List ℕ} (so_far : SoFar f need t k ws here)
-    (found : Bool) {kept : Bool} (x : Front (List ℕ))
-    (line : cond found (some x) none ≡ line_of (need k).numbers here) (rule : kept ≡ (need k).rule x.got) where
-  with_line_lem : read_words f (singles need (suc k)) t ≡ with_words ws (unless f x (line_refusal found kept))
-  with_line_lem = one_more f need t k ws here so_far.is ∙ ap (with_words ws) (one_line f (need k) here found kept x line rule)
-
-  pub line_refused : {n : ℕ} {v : Verdict} {r : Refusal} → verdict_is v ≡ line_refusal found kept → v ≡ Verdict.Refused r → k < n
+    (text ns : List ℕ) (line : Found ℕ) {kept : Bool}
+    (is : line_step text ns line ≡ line_of (need k).numbers here) (rule : kept ≡ (need k).rule ns) where
+  pub line_refused : {n : ℕ} {r : Refusal} → verdict_is {A = ℕ} (Err r) ≡ line_refusal (is_some line) kept → k < n
       → read_words f (singles need n) t ≡ wrong r
   unfolding with_words verdict_is
-  line_refused {n} {v} {r} judged e h = wrong_stays f need t (suc k) n r h (rw (sym judged, e) at with_line_lem)
+  line_refused {n} {r} judged h =
+      wrong_stays f need t (suc k) n r h
+      (one_more f need t k ws here so_far.is ∙ ap (with_words ws) (one_wrong f (need k) text ns here line kept r is rule judged))
 
-  pub line_fine : {v : Verdict} → verdict_is v ≡ line_refusal found kept → v ≡ Verdict.Fine
-      → SoFar f need t (k + 1) (ws ++ f x.got) x.rest
+  pub line_fine : {next : ℕ} → verdict_is (Ok next) ≡ line_refusal (is_some line) kept → line ≡ Some next
+      → SoFar f need t (k + 1) (ws ++ f ns) (drop next text)
   unfolding with_words verdict_is
-  line_fine judged e = record { is = rw add-one (rw (sym judged, e) at with_line_lem) }
+  line_fine {next} judged e =
+      let found : line_step text ns (Some next) ≡ line_of (need k).numbers here = rw e at is in
+      let right : none ≡ line_refusal true kept = rw e at judged in
+      record {
+        is = rw add-one
+            (one_more f need t k ws here so_far.is ∙ ap (with_words ws) (one_right f (need k) text ns here next kept found rule right));
+      }

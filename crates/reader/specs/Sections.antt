@@ -1,13 +1,12 @@
 -- Sections: some of the lines needed, and the words made of their numbers.
 -- Only contracts inside the crate speak of these.
 -- Assumes nothing.
-use Rattle.std.specs.Prelude.{ℕ, ◌+◌, ◌≤◌, ◌≡◌, true, false, List, [], ◌∷◌, ◌++◌, get_or, drop}
+use Rattle.std.specs.Prelude.{ℕ, ◌+◌, ◌≤◌, ◌≡◌, true, false, List, [], ◌∷◌, ◌++◌, get_or, drop, Result, Ok, Err}
 use Rattle.std.proofs.Math.Option.{none, some}
 use Rattle.graph.specs.declared.refusal.Refusal.{Refusal}
 use Rattle.graph.specs.declared.refusal.Refusal.TheVariants.{BadLine, BadLiteral}
 use Rattle.graph.specs.Graph.{most_inputs, most_outputs, most_gates}
 use Rattle.text.specs.declared.header.Header.{Header}
-use Rattle.reader.specs.declared.section.Section.{Section}
 use Rattle.text.specs.Line.{line_of}
 use Rattle.text.specs.Reading.{free_of, Needed}
 
@@ -45,6 +44,6 @@ abbrev pub output_words : List ℕ → List ℕ
 output_words ns = get_or ns 0 0 ∷ []
 
 -- the section's answer, where these are the words that it stored
-unfoldable pub section_words : List ℕ → List ℕ → Section → Words
-section_words t ws (Section.Ends place) = words ws (drop place t)
-section_words t ws (Section.Wrong r) = wrong r
+unfoldable pub section_words : List ℕ → List ℕ → Result ℕ Refusal → Words
+section_words t ws (Ok place) = words ws (drop place t)
+section_words t ws (Err r) = wrong r

@@ -1,118 +1,93 @@
-// The lines after the first, a section at a time. The first wrong line ends it.
+// The lines after the first, a section at a time: the place where it ends, or why its first wrong line is refused.
 ghost use Rattle.std.specs.Prelude.{◌≡◌, [], ◌+◌, ◌*◌, ◌<◌, ◌≤◌, length, take, drop};
 ghost use Rattle.text.specs.Reading.{gate_needed, inputs_needed, outputs_needed, gates_needed, gate_words};
 ghost use Rattle.reader.specs.Sections.{Limited, no_words, output_words, read_words, section_words};
 ghost use Rattle.graph.specs.Graph.{most_inputs, most_gates, larger_first};
 ghost use Rattle.graph.specs.Lent.{laid};
 
-use graph::{Lit, Refusal, Var, Verdict};
+use graph::{Fanins, Lit, Refusal, Var};
 use scanner::{line_of, line_verdict};
 use text::Header;
 
-// Where a section ends, or why its first wrong line is refused.
-#[derive(Clone, Copy)]
-pub enum Section {
-    Ends(usize),
-    Wrong(Refusal),
-}
-
 // Input line k is 2k.
-pub(crate) fn read_inputs(text: &[u8], at: usize, header: Header) -> Section
+pub(crate) fn read_inputs(text: &[u8], at: usize, header: Header) -> Result<usize, Refusal>
     requires { Limited header }
     ensures { section_words text.now [] result ≡ read_words no_words (inputs_needed header) (drop at text.now) }
 {
-    let count = header.inputs;
     let mut next = at;
-    let mut k: u32 = 0;
-    while k < count {
-        let mut numbers: [u32; 1] = [0; 1];
+    for k in 0..header.inputs {
+        let mut numbers = [0; 1];
         let line = line_of(text, next, &mut numbers);
         let kept = numbers[0] == Var(k + 1).plain().0;
-        if let Verdict::Refused(refusal) = line_verdict(line.found, kept) {
-            return Section::Wrong(refusal);
-        }
-        next = line.next;
-        k += 1;
+        next = line_verdict(line, kept)?;
     }
-    Section::Ends(next)
+    Ok(next)
 }
 
 // An output is any literal up to 2M + 1.
-pub(crate) fn read_outputs(text: &[u8], at: usize, header: Header, words: &mut [u32]) -> Section
+pub(crate) fn read_outputs(
+    text: &[u8],
+    at: usize,
+    header: Header,
+    words: &mut [u32],
+) -> Result<usize, Refusal>
     requires limited { Limited header }
     requires outputs_in_bounds { header.outputs ≤ length words.old }
     ensures { section_words text.now (take header.outputs words.new) result
         ≡ read_words output_words (outputs_needed header) (drop at text.now) }
 {
     let most = Var(header.highest).plain().0 + 1;
-    let count = header.outputs as usize;
     let mut next = at;
-    let mut k: usize = 0;
-    while k < count {
-        let mut numbers: [u32; 1] = [0; 1];
+    for word in words[..header.outputs as usize].iter_mut() {
+        let mut numbers = [0; 1];
         let line = line_of(text, next, &mut numbers);
-        let kept = numbers[0] <= most;
-        if let Verdict::Refused(refusal) = line_verdict(line.found, kept) {
-            return Section::Wrong(refusal);
-        }
-        words[k] = numbers[0];
-        next = line.next;
-        k += 1;
+        next = line_verdict(line, numbers[0] <= most)?;
+        *word = numbers[0];
     }
-    Section::Ends(next)
+    Ok(next)
 }
 
 // That a line's numbers are this gate's: its own literal on the left, and smaller ones on the right.
+#[tactic(auto, unfolding(text::specs::Reading::gate_needed))]
 fn is_gate_line(numbers: [u32; 3], gate: Var) -> bool
     requires { gate.0 ≤ most_inputs + most_gates }
     ensures { result ≡ (gate_needed gate.0).rule numbers }
 {
     let own = gate.plain().0;
-    if numbers[0] != own {
-        return false;
-    }
-    if own <= numbers[1] {
-        return false;
-    }
-    numbers[2] < own
+    numbers[0] == own && numbers[1] < own && numbers[2] < own
 }
 
 // Stores a gate's two literals, the larger first.
+#[tactic(auto, using(graph::proofs::Lent::laid_gate))]
 fn store_gate(words: &mut [u32], at: usize, one: Lit, other: Lit)
     requires { at + 1 < length words.old }
     ensures { words.new ≡ laid at (larger_first one.0 other.0) words.old }
 {
-    let second = at + 1;
-    if one.0 < other.0 {
-        words[at] = other.0;
-        words[second] = one.0;
-    } else {
-        words[at] = one.0;
-        words[second] = other.0;
-    }
+    let Fanins { first, second } = Fanins::larger_first(one, other);
+    words[at] = first.0;
+    words[at + 1] = second.0;
 }
 
 // Gate line k has left side 2(F + k), where F variables stand before the first gate, and its right sides in either order.
-pub(crate) fn read_gates(text: &[u8], at: usize, header: Header, words: &mut [u32]) -> Section
+pub(crate) fn read_gates(
+    text: &[u8],
+    at: usize,
+    header: Header,
+    words: &mut [u32],
+) -> Result<usize, Refusal>
     requires limited { Limited header }
     requires gates_in_bounds { 2 * header.gates ≤ length words.old }
     ensures { section_words text.now (take (2 * header.gates) words.new) result
         ≡ read_words gate_words (gates_needed header) (drop at text.now) }
 {
     let free = header.free();
-    let count = header.gates;
     let mut next = at;
-    let mut k: u32 = 0;
-    while k < count {
-        let mut numbers: [u32; 3] = [0; 3];
+    for k in 0..header.gates {
+        let mut numbers = [0; 3];
         let line = line_of(text, next, &mut numbers);
         let kept = is_gate_line(numbers, Var(free + k + 1));
-        if let Verdict::Refused(refusal) = line_verdict(line.found, kept) {
-            return Section::Wrong(refusal);
-        }
-        store_gate(words, 2 * (k as usize), Lit(numbers[1]), Lit(numbers[2]));
-        next = line.next;
-        k += 1;
+        next = line_verdict(line, kept)?;
+        store_gate(words, 2 * k as usize, Lit(numbers[1]), Lit(numbers[2]));
     }
-    Section::Ends(next)
+    Ok(next)
 }

@@ -13,7 +13,7 @@ use Rattle.window.specs.Table.{table, same_table}
 use Rattle.window.specs.Local.{Covered}
 use Rattle.window.specs.Calls.{window_refusals, Window, window_rank, WindowGiven}
 use Rattle.replacement.specs.declared.types.Proposal.{Proposal}
-use Rattle.replacement.specs.declared.types.Finished.{Finished}
+use Rattle.replacement.specs.declared.types.Applied.{Applied}
 use Rattle.replacement.specs.Proposal.{allowed, RuleKept, proposed_table}
 use Rattle.replacement.specs.Rewire.{finished, gain, is_at_least_one}
 
@@ -62,11 +62,11 @@ apply_refusals g root w p b =
     ∷ [])
 
 -- the graph h is left in the lent lists, and its counts are told
-unfoldable pub left_in : Graph → Buffers → Effect (Result Finished Refusal) Buffers
+unfoldable pub left_in : Graph → Buffers → Effect (Result Applied Refusal) Buffers
 unfolding stored_in
 left_in h b = Ok (record { gates = size h.net; outputs = length h.outputs }) leaving stored_in h b
 
-unfoldable pub apply_effect : Graph → ℕ → Leaves → Proposal → Buffers → Effect (Result Finished Refusal) Buffers
+unfoldable pub apply_effect : Graph → ℕ → Leaves → Proposal → Buffers → Effect (Result Applied Refusal) Buffers
 unfolding apply_refusals first_refusal finished left_in
 apply_effect g root w p b =
     elim (first_refusal (apply_refusals g root w p b)) [
@@ -74,6 +74,6 @@ apply_effect g root w p b =
       | none ↦ left_in (finished g root p) b
     ]
 
-unfoldable pub applied_outcome : Result Finished Refusal → Outcome
+unfoldable pub applied_outcome : Result Applied Refusal → Outcome
 applied_outcome (Ok n) = accepted (n.gates ∷ n.outputs ∷ [])
 applied_outcome (Err r) = refused r

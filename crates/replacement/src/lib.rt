@@ -3,4 +3,4 @@
 
 mod types;
 
-pub use types::{Finished, Proposal};
+pub use types::{Applied, Proposal};

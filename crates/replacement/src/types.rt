@@ -16,6 +16,7 @@ pub struct Proposal {
 
 impl Proposal {
     // How many gates it puts at the root.
+    #[tactic(auto, unfolding(crate::specs::Vanish::new_gates))]
     pub fn new_gates(self) -> usize
         ensures { result ≡ new_gates self }
     {
@@ -26,6 +27,7 @@ impl Proposal {
     }
 
     // What a plain reference to the root becomes.
+    #[tactic(auto, using(crate::proofs::Rewire::literal_stands, crate::proofs::Rewire::root_stands, crate::proofs::Rewire::and_kind))]
     fn stand_in(self, root: Var) -> Lit
         requires { Wires root.0 self × (root.0 < 2 ^ 30) }
         ensures { result.0 ≡ stand_in root.0 self }
@@ -37,6 +39,7 @@ impl Proposal {
     }
 
     // What a literal becomes: a reference to the root is redirected, and complemented where it was.
+    #[tactic(auto, using(crate::proofs::Rewire::redirected_root, crate::proofs::Rewire::redirected_other))]
     pub fn redirected(self, root: Var, l: Lit) -> Lit
         requires { Wires root.0 self × (root.0 < 2 ^ 30) }
         ensures { result.0 ≡ redirected root.0 self l.0 }
@@ -50,7 +53,7 @@ impl Proposal {
 
 // The counts of the graph that applying a proposal finishes.
 #[derive(Clone, Copy, Debug, PartialEq, Eq)]
-pub struct Finished {
+pub struct Applied {
     pub gates: usize,
     pub outputs: usize,
 }

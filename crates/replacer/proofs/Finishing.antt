@@ -19,7 +19,7 @@ use Rattle.graph.specs.Drop.{dropped}
 use Rattle.graph.proofs.Graph.{net_well_formed, sinks_below}
 use Rattle.graph.proofs.Lists.{same_tests, equal_or_not}
 use Rattle.replacement.specs.declared.types.Proposal.{Proposal}
-use Rattle.replacement.specs.declared.types.Finished.{Finished}
+use Rattle.replacement.specs.declared.types.Applied.{Applied}
 use Rattle.replacement.specs.Rewire.{Wires, to_literal, to_and, redirected, rewired_net, rewired, finished}
 use Rattle.replacement.specs.Calls.{left_in}
 use Rattle.replacement.specs.Vanish.{literals, Without, From, MarksPast}
@@ -103,7 +103,7 @@ module _ (net : Net) (ok : WellFormedNet net) (root : ℕ) (gate : IsGate net ro
 -- ---- the words
 
 -- the counts of a finished graph, as the call tells them
-abbrev pub told : ℕ → ℕ → Result Finished Refusal
+abbrev pub told : ℕ → ℕ → Result Applied Refusal
 told gates outputs = Ok (record { gates = gates; outputs = outputs })
 
 same_graph : {a a' o o' : ℕ} {gs gs' os os' : List ℕ} → a ≡ a' → o ≡ o' → gs ≡ gs' → os ≡ os'

@@ -19,7 +19,7 @@ use Rattle.graph.proofs.Lists.{true_or_false}
 use Rattle.graph.proofs.Refuse.{first_join}
 use Rattle.window.specs.declared.leaf_set.Leaves.{Leaves}
 use Rattle.replacement.specs.declared.types.Proposal.{Proposal}
-use Rattle.replacement.specs.declared.types.Finished.{Finished}
+use Rattle.replacement.specs.declared.types.Applied.{Applied}
 use Rattle.replacement.specs.Rewire.{Wires, finished, gain, is_at_least_one, positive}
 use Rattle.replacement.specs.Calls.{proposal_refusals, apply_refusals, left_in, apply_effect}
 use Rattle.replacement.proofs.Gain.{gain_iff, positive_iff}

@@ -10,7 +10,7 @@ use Rattle.graph.specs.Graph.{Net, Graph, over, free, size, last, first, second,
 use Rattle.graph.specs.Use.{InUse, marks}
 use Rattle.graph.specs.Drop.{new_number}
 use Rattle.replacement.specs.declared.types.Proposal.{Proposal}
-use Rattle.replacement.specs.declared.types.Finished.{Finished}
+use Rattle.replacement.specs.declared.types.Applied.{Applied}
 use Rattle.replacement.specs.Rewire.{Wires, rewired, finished, gain, is_at_least_one}
 use Rattle.replacement.specs.Calls.{left_in}
 use Rattle.replacement.specs.Vanish.{MarksPast}
@@ -55,12 +55,12 @@ unfolding gather kept_words
 kept_gates net ms ns = gather (λ k. kept_words net ms ns (suc (free net + k))) (size net)
 
 -- what storing the finished graph comes to
-unfoldable pub finish_effect : Graph → ℕ → Proposal → Buffers → Effect (Result Finished Refusal) Buffers
+unfoldable pub finish_effect : Graph → ℕ → Proposal → Buffers → Effect (Result Applied Refusal) Buffers
 unfolding finished no_room_for left_in
 finish_effect g root p b =
     let h = finished g root p in cond (no_room_for h b) (Err NoRoom leaving b) (left_in h b)
 
 -- what replacing a root comes to, where only the gain and the room are left to judge
-unfoldable pub replace_effect : Graph → ℕ → Proposal → Buffers → Effect (Result Finished Refusal) Buffers
+unfoldable pub replace_effect : Graph → ℕ → Proposal → Buffers → Effect (Result Applied Refusal) Buffers
 unfolding gain is_at_least_one finish_effect
 replace_effect g root p b = cond (is_at_least_one (gain g root p)) (finish_effect g root p b) (Err NoGain leaving b)

@@ -17,7 +17,7 @@ use checker::no_room;
 use finish::{mark_kept, put_gates, put_outputs, renumber};
 use graph::{LentGraph, MOST_VARIABLES, Refusal, Var};
 use judge::proposal_verdict;
-use replacement::{Finished, Proposal};
+use replacement::{Applied, Proposal};
 use rewire::Rewiring;
 use weigher::past::mark_past;
 use weigher::weigh::{gain, going_with};
@@ -29,7 +29,7 @@ fn store_finished(
     marks: &[bool],
     words: &mut [u32],
     results: &mut [u32],
-) -> Result<Finished, Refusal>
+) -> Result<Applied, Refusal>
     requires well_formed { WellFormed rewiring.now.graph.now }
     requires kept_marks { KeptMarks rewiring.now.graph.now rewiring.now.root.0 rewiring.now.proposal (marks_in marks.now)
         × (last rewiring.now.graph.now.net < length (marks_in marks.now)) }
@@ -45,7 +45,7 @@ fn store_finished(
     }
     put_gates(rewiring, marks, &numbers, words);
     put_outputs(rewiring, &numbers, results);
-    Ok(Finished { gates, outputs })
+    Ok(Applied { gates, outputs })
 }
 
 // Replaces a root in use by a proposal of literals below it, if that gains and there is room.
@@ -55,7 +55,7 @@ fn replace(
     proposal: Proposal,
     words: &mut [u32],
     results: &mut [u32],
-) -> Result<Finished, Refusal>
+) -> Result<Applied, Refusal>
     requires { WellFormed graph.now × InUse graph.now root.0 × Wires root.0 proposal }
     ensures { result leaving buffers_of words.new results.new
         ≡ replace_effect graph.now root.0 proposal (buffers_of words.old results.old) }
@@ -84,7 +84,7 @@ pub fn apply(
     proposal: Proposal,
     words: &mut [u32],
     results: &mut [u32],
-) -> Result<Finished, Refusal>
+) -> Result<Applied, Refusal>
     ensures { result leaving buffers_of words.new results.new
         ≡ apply_effect graph.now root.0 leaves proposal (buffers_of words.old results.old) }
 {

@@ -8,7 +8,7 @@ use Rattle.graph.specs.Lists.{filled}
 use Rattle.graph.specs.Lent.{Buffers, no_room_for, RoomFor, stored_in, Effect, ◌leaving◌}
 use Rattle.graph.specs.Refuse.{number_of, Row, ◌⇒◌, first_refusal, Outcome, accepted, refused}
 use Rattle.graph.specs.Graph.{Graph, graph_of, size, well_formed, WellFormed}
-use Rattle.run.specs.declared.Finished.{Finished}
+use Rattle.run.specs.declared.Ran.{Ran}
 use Rattle.run.specs.Run.{run}
 
 -- the lists lent for the result, and those of the work area
@@ -43,7 +43,7 @@ abbrev pub nothing : Graph
 nothing = graph_of 0 [] []
 
 -- afterwards the result holds the finished graph, and the work area 0
-unfoldable pub run_effect : Graph → RunBuffers → Effect (Result Finished Refusal) RunBuffers
+unfoldable pub run_effect : Graph → RunBuffers → Effect (Result Ran Refusal) RunBuffers
 unfolding run_refusals first_refusal run filled_in
 run_effect g b =
     elim (first_refusal (run_refusals g b)) [
@@ -53,6 +53,6 @@ run_effect g b =
           leaving record { result = filled_in g e.graph b.result; work = filled_in g nothing b.work }
     ]
 
-unfoldable pub ran_outcome : Result Finished Refusal → Outcome
+unfoldable pub ran_outcome : Result Ran Refusal → Outcome
 ran_outcome (Ok n) = accepted (n.gates ∷ n.made ∷ [])
 ran_outcome (Err r) = refused r

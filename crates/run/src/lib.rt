@@ -3,7 +3,7 @@
 
 // What a run comes to: the finished graph's gates, and how many replacements were made.
 #[derive(Clone, Copy, Debug, PartialEq, Eq)]
-pub struct Finished {
+pub struct Ran {
     pub gates: usize,
     pub made: usize,
 }

@@ -11,12 +11,7 @@ use graph::{LentGraph, Lit, Var};
 use replacement::Proposal;
 
 // How many gates go with the root, itself included: those that it reaches without a mark, where the marks are those past it.
-pub fn going_with(
-    graph: &LentGraph,
-    root: Var,
-    marks: &mut [bool],
-    list: &mut [u32],
-) -> usize
+pub fn going_with(graph: &LentGraph, root: Var, marks: &mut [bool], list: &mut [u32]) -> usize
     requires walkable { Walkable graph.now.net (marks_in marks.old) list.old }
     requires gate { IsGate graph.now.net root.0 }
     ensures going_with { GoingWith graph.now.net (marks_in marks.old) root.0 result }
@@ -40,5 +35,7 @@ pub fn gain(
     ensures marks_unchanged { marks_in marks.new ≡ marks_in marks.old }
 {
     let held = held_back(graph, proposal.first, proposal.second, marks, list);
-    going.saturating_sub(held + proposal.new_gates())
+    going
+        .saturating_sub(held)
+        .saturating_sub(proposal.new_gates())
 }

@@ -1,133 +1,140 @@
 -- How many bytes the lines have: those of their numbers and one after each, so that a text's bytes are counted number by number.
 -- Assumes nothing.
 use mathlib.Core.Path.{◌≡◌, refl, ap, ◌∙◌}
-use mathlib.Core.List.{List, [], ◌∷◌, ◌++◌}
-use Prim.Native.Nat.{ℕ, zero, suc, ◌+◌, ◌*◌, ◌/◌, ◌%◌, ◌≤◌, ◌<◌, zero-le}
+use mathlib.Core.List.{List, [], ◌∷◌}
+use Prim.Native.Nat.{ℕ, zero, suc, ◌+◌, ◌-◌, ◌*◌, ◌%◌, ◌≤◌, zero-le}
 use native.Mathlib.Numerals.{add-one}
 use native.Mathlib.Omega.{arith}
 use lib.ListN.{length, get_or, length-append}
 use Rattle.graph.specs.Lists.{gather}
-use Rattle.graph.specs.Graph.{net_of, graph_of}
+use Rattle.graph.specs.Graph.{Net, Graph, net_of, free, size, last, sinks, WellFormed}
+use Rattle.graph.proofs.Graph.{first_at, second_at}
 use Rattle.text.specs.Number.{decimal, most_number}
 use Rattle.text.specs.Line.{separator, line, lines}
-use Rattle.text.specs.States.{aag, input_numbers, output_numbers, text_of}
-use Rattle.text.proofs.Number.{decimal_one, decimal_short}
-use Rattle.writer.proofs.Writing.{input_line, input_lines, output_line, output_lines, gate_line_of, gate_lines, text_size}
+use Rattle.text.specs.States.{counts, input_numbers, output_numbers, text_of}
+use Rattle.text.specs.Reading.{most_bytes}
+use Rattle.text.proofs.Number.{decimal_short}
+use Rattle.text.proofs.RoundTrip.{text_of_short}
+use Rattle.writer.proofs.Writing.{number_at, line_numbers, input_line, input_lines, output_line, output_lines, gate_line, gate_lines, text_size}
 
--- the first number, the byte after it, and the line of the others
-line_size : (x : ℕ) (xs : List ℕ) → length (line (x ∷ xs)) ≡ length (decimal x) + 1 + length (line xs)
+-- ---- the numbers of lines, counted one after another
+
+pub ten_digits : (x : ℕ) → x ≤ most_number → length (decimal x) ≤ 10
+ten_digits x h = decimal_short 9 x (omega arith)
+
+-- a number and the byte after it
+pub number_size : (ns : List ℕ) (k : ℕ) → length (number_at ns k) ≡ length (decimal (get_or ns k 0)) + 1
+number_size ns k = length-append (decimal (get_or ns k 0)) (separator (length ns - 1 - k) ∷ [])
+
+-- a number, the byte after it, and the line of the others
+pub line_size : (x : ℕ) (xs : List ℕ) → length (line (x ∷ xs)) ≡ length (decimal x) + 1 + length (line xs)
 unfolding line
 line_size x xs = length-append (decimal x) (separator (length xs) ∷ line xs) ∙ omega arith
 
-line_size_none : length (line []) ≡ 0
+pub line_size_none : length (line []) ≡ 0
 unfolding line
 line_size_none = refl
-
--- ---- lines of one number, counted one after another
-
--- the first k of n lines have so many bytes, at most ten digits and one byte each
-pub record Counts (f : ℕ → List ℕ) (n k total : ℕ) : Type 0 where
-  pub within : k ≤ n
-  pub total_is : total ≡ length (gather f k)
-  pub few : total ≤ 11 * k
-
-pub counts_none : (f : ℕ → List ℕ) (n : ℕ) → Counts f n 0 0
-unfolding gather
-counts_none f n = record { within = zero-le; total_is = refl; few = zero-le }
-
-module _ {f : ℕ → List ℕ} {n k total : ℕ} (c : Counts f n k total) where
-  pub counts_all : n ≤ k → total ≡ length (gather f n)
-  counts_all h = let e : k ≡ n = omega arith in rw e at c.total_is
-
-  pub count_then : k < n → (x : ℕ) → f k ≡ line (x ∷ []) → x ≤ most_number → {size : ℕ}
-      → size ≡ length (decimal x) → Counts f n (k + 1) (total + (size + 1))
-  unfolding gather
-  count_then h x e s q =
-      let more = ap length e ∙ line_size x [] in
-      let none = line_size_none in
-      let short = decimal_short 9 x (omega arith) in
-      record {
-        within = omega arith;
-        total_is = rw (add-one k) (omega (arith, length-append (gather f k) (f k), c.total_is));
-        few = omega (arith, c.few);
-      }
-
--- ---- the text
-
-first_line_size : (m i o a : ℕ) → length (aag ++ line (m ∷ i ∷ 0 ∷ o ∷ a ∷ []))
-    ≡ 4 + length (decimal m) + length (decimal i) + 1 + length (decimal o) + length (decimal a) + 5
-first_line_size m i o a = omega (
-  arith,
-  length-append aag (line (m ∷ i ∷ 0 ∷ o ∷ a ∷ [])),
-  line_size m (i ∷ 0 ∷ o ∷ a ∷ []),
-  line_size i (0 ∷ o ∷ a ∷ []),
-  line_size 0 (o ∷ a ∷ []),
-  line_size o (a ∷ []),
-  line_size a [],
-  line_size_none,
-  ap length (decimal_one 0 (omega arith)),
-)
 
 gather_size : (f : ℕ → List ℕ) (k : ℕ) → length (gather f (suc k)) ≡ length (gather f k) + length (f k)
 unfolding gather
 gather_size f k = length-append (gather f k) (f k)
 
-module _ (i : ℕ) (gs : List ℕ) where
+-- the first k pieces have so many bytes, at most ten digits and one byte each
+pub record Counts (f : ℕ → List ℕ) (k total : ℕ) : Type 0 where
+  pub total_is : total ≡ length (gather f k)
+  pub few : total ≤ 11 * k
+
+pub counts_none : (f : ℕ → List ℕ) → Counts f 0 0
+unfolding gather
+counts_none f = record { total_is = refl; few = zero-le }
+
+module _ {f : ℕ → List ℕ} {k total : ℕ} (c : Counts f k total) where
+  pub counts_all : (n : ℕ) → k ≡ n → total ≡ length (gather f n)
+  counts_all n e = rw e at c.total_is
+
+  pub count_then : (x : ℕ) → length (f k) ≡ length (decimal x) + 1 → x ≤ most_number → {more : ℕ}
+      → more ≡ length (decimal x) → Counts f (k + 1) (total + (more + 1))
+  count_then x e s q =
+      let short = ten_digits x s in
+      record {
+        total_is = rw (add-one k) (omega (arith, gather_size f k, c.total_is));
+        few = omega (arith, c.few);
+      }
+
+-- ---- the text
+
+-- pieces of the same sizes
+sizes_same : (f h : ℕ → List ℕ) (n : ℕ) → ((k : ℕ) → length (f k) ≡ length (h k)) → length (gather f n) ≡ length (gather h n)
+unfolding gather
+sizes_same f h zero e = refl
+sizes_same f h (suc n) e = omega (arith, gather_size f n, gather_size h n, e n, sizes_same f h n e)
+
+-- numbers in a line each have as many bytes as in one line
+outputs_size : (os : List ℕ) → length (lines (output_numbers os)) ≡ length (line os)
+outputs_size os =
+    let one = sizes_same (output_line os) (number_at os) (length os)
+    (λ j. omega (arith, line_size (get_or os j 0) [], line_size_none, number_size os j)) in
+    rw (output_lines os, line_numbers os) one
+
+module _ (net : Net) where
   -- a gate's numbers are the literal of its variable and two words
-  gate_size : (k : ℕ) → length (gate_line_of i gs k)
-      ≡ length (input_line (i + k)) + length (output_line gs (2 * k)) + length (output_line gs (suc (2 * k)))
+  gate_size : (k : ℕ) → length (gate_line net k)
+      ≡ length (input_line (free net + k)) + length (number_at net.gates (2 * k)) + length (number_at net.gates (suc (2 * k)))
   gate_size k =
-      let left = 2 * suc (i + k) in
-      let one = get_or gs (2 * k) 0 in
-      let other = get_or gs (suc (2 * k)) 0 in
-      rw (add-one (2 * k)) (omega (
+      let left = 2 * (free net + k + 1) in
+      let one = get_or net.gates (2 * k) 0 in
+      let other = get_or net.gates (suc (2 * k)) 0 in
+      let line_is : gate_line net k ≡ line (left ∷ one ∷ other ∷ [])
+      = rw (add-one (free net + k), first_at net k, second_at net k, add-one (2 * k)) in
+      omega (
         arith,
+        ap length line_is,
         line_size left (one ∷ other ∷ []),
         line_size one (other ∷ []),
         line_size other [],
         line_size left [],
-        line_size one [],
         line_size_none,
-      ))
+        number_size net.gates (2 * k),
+        number_size net.gates (suc (2 * k)),
+      )
 
-  gates_size : (k : ℕ) → length (gather input_line i) + length (gather (gate_line_of i gs) k)
-      ≡ length (gather input_line (i + k)) + length (gather (output_line gs) (2 * k))
+  gates_size : (k : ℕ) → length (gather input_line (free net)) + length (gather (gate_line net) k)
+      ≡ length (gather input_line (free net + k)) + length (gather (number_at net.gates) (2 * k))
   unfolding gather
-  gates_size zero = let e : i + 0 ≡ i = omega arith in rw e
+  gates_size zero = let e : free net + 0 ≡ free net = omega arith in rw e
   gates_size (suc k) =
-      let p : i + suc k ≡ suc (i + k) = omega arith in
+      let p : free net + suc k ≡ suc (free net + k) = omega arith in
       let q : 2 * suc k ≡ suc (suc (2 * k)) = omega arith in
       rw (p, q)
       (omega (
         arith,
         gates_size k,
         gate_size k,
-        gather_size (gate_line_of i gs) k,
-        gather_size input_line (i + k),
-        gather_size (output_line gs) (2 * k),
-        gather_size (output_line gs) (suc (2 * k)),
+        gather_size (gate_line net) k,
+        gather_size input_line (free net + k),
+        gather_size (number_at net.gates) (2 * k),
+        gather_size (number_at net.gates) (suc (2 * k)),
       ))
 
--- the first line, the literals of all the variables, the outputs and the gates' words
-abbrev pub bytes_of : ℕ → List ℕ → List ℕ → ℕ
-bytes_of i gs os =
-    4 + length (decimal (i + length gs / 2)) + length (decimal i) + 1 + length (decimal (length os)) + length (decimal (length gs / 2)) + 5
-    + length (lines (input_numbers (net_of (i + length gs / 2) [])))
-    + length (lines (output_numbers os))
-    + length (lines (output_numbers gs))
-
-pub text_count : (i : ℕ) (gs os : List ℕ) → length gs % 2 ≡ 0 → length (text_of (graph_of i gs os)) ≡ bytes_of i gs os
-text_count i gs os even =
-    let n : ℕ = length gs / 2 in
-    let e : 2 * n ≡ length gs = omega arith in
+-- `aag` and a space, the counts, the literals of all the variables, the outputs and the gates' words
+pub text_count : (g : Graph) → length g.net.gates % 2 ≡ 0 → length (text_of g)
+    ≡ 4 + length (line (counts g)) + length (lines (input_numbers (net_of (last g.net) []))) + length (line (sinks g)) + length (line g.net.gates)
+text_count g even =
+    let e : 2 * size g.net ≡ length g.net.gates = omega arith in
     omega (
       arith,
-      text_size i gs os,
-      first_line_size (i + n) i (length os) n,
-      ap length (input_lines i []),
-      ap length (gate_lines i gs),
-      gates_size i gs n,
-      ap length (input_lines (i + n) []),
-      ap length (output_lines gs),
-      ap (λ (k : ℕ). length (gather (output_line gs) k)) e,
+      text_size g,
+      ap length (input_lines g.net),
+      outputs_size (sinks g),
+      ap length (gate_lines g.net),
+      gates_size g.net (size g.net),
+      ap length (input_lines (net_of (last g.net) [])),
+      ap length (line_numbers g.net.gates),
+      ap (λ (k : ℕ). length (gather (number_at g.net.gates) k)) e,
     )
+
+-- the whole text has few bytes, so no sum of its parts wraps
+pub text_few : (g : Graph) → WellFormed g → length (line (counts g)) + length (lines (input_numbers (net_of (last g.net) []))) + length (line (sinks g))
+    + length (line g.net.gates) + 4
+    ≤ most_bytes
+text_few g w = omega (arith, text_count g w.lawful.even, text_of_short g w)

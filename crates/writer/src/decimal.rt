@@ -7,34 +7,18 @@ ghost use Rattle.graph.specs.Lent.{laid};
 pub(crate) fn decimal_length(number: u32) -> usize
     ensures { result ≡ length (decimal number) }
 {
-    if number < 10 {
-        return 1;
+    match number {
+        0..=9 => 1,
+        10..=99 => 2,
+        100..=999 => 3,
+        1_000..=9_999 => 4,
+        10_000..=99_999 => 5,
+        100_000..=999_999 => 6,
+        1_000_000..=9_999_999 => 7,
+        10_000_000..=99_999_999 => 8,
+        100_000_000..=999_999_999 => 9,
+        _ => 10,
     }
-    if number < 100 {
-        return 2;
-    }
-    if number < 1_000 {
-        return 3;
-    }
-    if number < 10_000 {
-        return 4;
-    }
-    if number < 100_000 {
-        return 5;
-    }
-    if number < 1_000_000 {
-        return 6;
-    }
-    if number < 10_000_000 {
-        return 7;
-    }
-    if number < 100_000_000 {
-        return 8;
-    }
-    if number < 1_000_000_000 {
-        return 9;
-    }
-    10
 }
 
 // Writes a number from a place on, the last digit first, and answers the place after it.
@@ -46,11 +30,12 @@ pub(crate) fn put_decimal(bytes: &mut [u8], at: usize, number: u32) -> usize
     let end = at + decimal_length(number);
     let mut place = end;
     let mut left = number;
+    // A while: it ends with the number and not at an index, and the first digit needs no division.
     while 10 <= left {
         place -= 1;
-        bytes[place] = 48 + (left % 10) as u8;
+        bytes[place] = b'0' + (left % 10) as u8;
         left /= 10;
     }
-    bytes[at] = 48 + left as u8;
+    bytes[at] = b'0' + left as u8;
     end
 }

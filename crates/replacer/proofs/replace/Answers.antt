@@ -56,8 +56,8 @@ returns-then-gain-eq0 c =
     nothing_gained a.graph.now a.root.0 a.proposal (buffers_of a.words.now a.results.now)
     (sym gain_is ∙ c.if-gain-eq0.true)
 
-pub mark_kept-requires-clause-walkable : goal.mark_kept-requires-clause-walkable
-mark_kept-requires-clause-walkable c =
+pub mark_kept-requires : goal.mark_kept-requires
+mark_kept-requires c =
     let net_ok = net_well_formed c.args.graph.now c.requires.0 in
     (net_ok, omega (arith, marks_length c.gain.new.marks), omega arith)
 

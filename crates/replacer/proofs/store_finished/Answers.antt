@@ -46,9 +46,10 @@ room c =
     let ok = c.requires.well_formed in
     let gate = a.rewiring.now.gate in
     let wires = a.rewiring.now.wires in
+    let tested = rw c.outputs-outputs.ensures at c.no_room.ensures in
     let test_is = room_is a.rewiring.now.graph.now ok a.rewiring.now.root.0 gate a.rewiring.now.proposal wires (marks_in a.marks.now)
     c.requires.kept_marks.0 most_variables (buffers_of a.words.now a.results.now) c.renumber-gates.ensures.value in
-    (room_iff _ _).0 (sym (c.no_room.ensures ∙ test_is) ∙ c.if-no_room.false)
+    (room_iff _ _).0 (sym (tested ∙ test_is) ∙ c.if-no_room.false)
 
 pub overflow_mul-gates : goal.overflow_mul-gates
 overflow_mul-gates c =
@@ -67,9 +68,10 @@ returns-then-no_room c =
     let wires = a.rewiring.now.wires in
     let stays = c.requires.kept_marks.0 in
     let count = c.renumber-gates.ensures.value in
+    let tested = rw c.outputs-outputs.ensures at c.no_room.ensures in
     let test_is = room_is graph ok a.rewiring.now.root.0 gate a.rewiring.now.proposal wires kept stays most_variables buffers count in
     finish_refused graph ok a.rewiring.now.root.0 gate a.rewiring.now.proposal wires kept stays most_variables buffers count
-    (sym (c.no_room.ensures ∙ test_is) ∙ c.if-no_room.true)
+    (sym (tested ∙ test_is) ∙ c.if-no_room.true)
 
 pub put_gates-requires : goal.put_gates-requires
 put_gates-requires c =
@@ -118,8 +120,9 @@ returns c =
     let wires = a.rewiring.now.wires in
     let numbered = c.renumber-gates.ensures.numbers_after in
     let has_room = (room_iff _ _).1 (room (goal.at.returns c).After-numbers-3-1) in
-    finish_stored graph ok a.rewiring.now.root.0 gate a.rewiring.now.proposal wires kept c.requires.kept_marks.0 most_variables
+    rw c.outputs-outputs.ensures
+    (finish_stored graph ok a.rewiring.now.root.0 gate a.rewiring.now.proposal wires kept c.requires.kept_marks.0 most_variables
     (buffers_of a.words.now a.results.now) c.renumber-gates.ensures.value has_room
     (c.put_gates.ensures ∙ ap (λ (ns : List ℕ). written (kept_gates net kept ns) a.words.now) numbered)
     (c.put_outputs.ensures
-    ∙ ap (λ (ns : List ℕ). written (map (λ l. by_numbers ns (redirected a.rewiring.now.root.0 a.rewiring.now.proposal l)) a.rewiring.now.graph.now.outputs) a.results.now) numbered)
+    ∙ ap (λ (ns : List ℕ). written (map (λ l. by_numbers ns (redirected a.rewiring.now.root.0 a.rewiring.now.proposal l)) a.rewiring.now.graph.now.outputs) a.results.now) numbered))

@@ -1,36 +1,29 @@
 -- `reader::header::aag_at_front` meets its contract: the four bytes, one step each.
 -- Assumes nothing.
-use mathlib.Core.Path.{sym, ◌∙◌}
-use borrow.Author.Tests.{not-true, not-false}
-use Rattle.scanner.proofs.Tokens.{bytes_stop, bytes_go_on, no_byte_found}
+use mathlib.Core.Path.{◌∙◌}
+use Rattle.scanner.specs.Tokens.{byte_step}
+use Rattle.reader.proofs.FirstLine.{bytes_stop, bytes_go_on}
 use Rattle.reader.proofs.header.aag_at_front.Goals as goal
 
-pub returns-then-not-a : goal.returns-then-not-a
-returns-then-not-a c =
-    let stop = not-true _ c.if-not-a.true in
-    no_byte_found _ _ stop ∙ sym (bytes_stop _ _ _ _ _ _ c.byte_at-a.ensures stop)
+pub returns-in_err-a : goal.returns-in_err-a
+unfolding byte_step
+returns-in_err-a c = rw c.from_residual.ensures (bytes_stop _ _ _ _ c.in_err-a.ensures)
 
-pub returns-then-not-aa : goal.returns-then-not-aa
-returns-then-not-aa c =
-    let stop = not-true _ c.if-not-aa.true in
-    no_byte_found _ _ stop
-    ∙ sym
-    (bytes_go_on _ _ _ _ _ _ c.byte_at-a.ensures (not-false _ c.if-not-a.false)
-    ∙ bytes_stop _ _ _ _ _ _ c.byte_at-aa.ensures stop)
+pub returns-in_err-aa : goal.returns-in_err-aa
+unfolding byte_step
+returns-in_err-aa c =
+    rw c.from_residual-in_err-aa.ensures (bytes_stop _ _ _ _ c.in_err-aa.ensures ∙ bytes_go_on _ _ _ _ c.in_ok-a.ensures)
 
-pub returns-then-not-aag : goal.returns-then-not-aag
-returns-then-not-aag c =
-    let stop = not-true _ c.if-not-aag.true in
-    no_byte_found _ _ stop
-    ∙ sym
-    (bytes_go_on _ _ _ _ _ _ c.byte_at-a.ensures (not-false _ c.if-not-a.false)
-    ∙ bytes_go_on _ _ _ _ _ _ c.byte_at-aa.ensures (not-false _ c.if-not-aa.false)
-    ∙ bytes_stop _ _ _ _ _ _ c.byte_at-aag.ensures stop)
+pub returns-in_err-aag : goal.returns-in_err-aag
+unfolding byte_step
+returns-in_err-aag c =
+    rw c.from_residual-in_err-aag.ensures
+    (bytes_stop _ _ _ _ c.in_err-aag.ensures ∙ bytes_go_on _ _ _ _ c.in_ok-aa.ensures ∙ bytes_go_on _ _ _ _ c.in_ok-a.ensures)
 
 pub returns : goal.returns
+unfolding byte_step
 returns c =
-    c.byte_at.ensures
-    ∙ sym
-    (bytes_go_on _ _ _ _ _ _ c.byte_at-a.ensures (not-false _ c.if-not-a.false)
-    ∙ bytes_go_on _ _ _ _ _ _ c.byte_at-aa.ensures (not-false _ c.if-not-aa.false)
-    ∙ bytes_go_on _ _ _ _ _ _ c.byte_at-aag.ensures (not-false _ c.if-not-aag.false))
+    c.byte_at-4.ensures
+    ∙ bytes_go_on _ _ _ _ c.in_ok-aag.ensures
+    ∙ bytes_go_on _ _ _ _ c.in_ok-aa.ensures
+    ∙ bytes_go_on _ _ _ _ c.in_ok-a.ensures

@@ -1,20 +1,25 @@
 -- `reader::header::header_line` meets its contract: `aag` and a space, then the line's five numbers as `line_of` stored them.
 -- Assumes nothing.
-use mathlib.Core.Path.{sym, ◌∙◌}
-use borrow.Author.Tests.{not-true, not-false}
-use Rattle.reader.specs.FirstLine.{header_step}
+use mathlib.Core.Path.{◌∙◌}
+use Rattle.scanner.specs.Tokens.{byte_step}
+use Rattle.scanner.specs.Lines.{line_step}
 use Rattle.scanner.proofs.Lines.{line_picked}
-use Rattle.reader.proofs.FirstLine.{no_header_found, header_stops, header_goes_on}
+use Rattle.reader.specs.FirstLine.{header_step}
+use Rattle.reader.proofs.FirstLine.{header_stops, header_goes_on}
 use Rattle.reader.proofs.header.header_line.Goals as goal
 
-pub returns-then-not-start : goal.returns-then-not-start
-returns-then-not-start c =
-    no_header_found _ _ c.no_header_line.ensures
-    ∙ sym (header_stops _ _ c.aag_at_front-start.ensures (not-true _ c.if-not-start.true))
+pub returns-in_err-start : goal.returns-in_err-start
+unfolding byte_step header_step
+returns-in_err-start c = rw c.from_residual.ensures (header_stops _ c.in_err-start.ensures)
+
+pub returns-in_err-next : goal.returns-in_err-next
+unfolding byte_step header_step line_step
+returns-in_err-next c =
+    rw c.from_residual-in_err-next.ensures (c.in_err-next.ensures ∙ header_goes_on _ c.in_ok-start.ensures)
 
 pub returns : goal.returns
-unfolding header_step
+unfolding byte_step header_step
 returns c =
-    line_picked _ _ _ 5 c.line_of-line.auto.numbers
-    ∙ c.line_of-line.ensures
-    ∙ sym (header_goes_on _ _ c.aag_at_front-start.ensures (not-false _ c.if-not-start.false))
+    line_picked _ _ c.in_ok-next.next 5 c.line_of.auto.numbers
+    ∙ c.in_ok-next.ensures
+    ∙ header_goes_on _ c.in_ok-start.ensures

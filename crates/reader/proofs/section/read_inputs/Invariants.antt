@@ -1,6 +1,6 @@
--- What the loop keeps, and how far it has to go.
+-- What the loop keeps.
 use mathlib.Core.List.{[]}
-use Prim.Native.Nat.{ℕ, suc, ◌-◌, ◌≤◌}
+use Prim.Native.Nat.{ℕ, suc}
 use lib.ListN.{drop}
 use Rattle.text.specs.Reading.{Needed, input_needed}
 use Rattle.reader.specs.Sections.{no_words}
@@ -12,7 +12,4 @@ abbrev pub need : ℕ → Needed
 need k = input_needed (suc k)
 
 abbrev pub invariant-loop-k : goal.invariant-loop-k
-invariant-loop-k l = (l.k ≤ l.count) × SoFar no_words need (drop l.at l.text) l.k [] (drop l.next l.text)
-
-abbrev pub decreases-loop-k : goal.decreases-loop-k
-decreases-loop-k l = l.count - l.k
+invariant-loop-k l = SoFar no_words need (drop l.at l.text) l.k [] (drop l.next l.text)

@@ -3,40 +3,46 @@
 -- Assumes nothing.
 use mathlib.Core.Path.{◌≡◌, refl, sym}
 use Prim.Native.Nat.{◌<◌}
-use native.Mathlib.Numerals.{add-one}
 use native.Mathlib.Omega.{arith}
-use borrow.Author.Rules.{rules}
-use lib.ListN.{length, length-set}
-use lib.Seq.{take-suc-set}
+use lib.ListN.{length, take, drop}
+use mathlib.Core.List.{◌++◌}
+use Rattle.std.proofs.lemmas.List.{length-take-le, take-append-le, take_more_set}
+use Rattle.std.proofs.lemmas.Result.{err_from_is_err_and}
 use Rattle.text.specs.Reading.{output_needed}
-use Rattle.scanner.specs.Lines.{line_step}
 use Rattle.reader.specs.Sections.{section_words}
 use Rattle.reader.proofs.Sections.{none_so_far, line_refused, line_fine}
 use Rattle.reader.proofs.section.read_outputs.Goals as goal
 
-pub loop-k-init : goal.loop-k-init
-loop-k-init c = (search rules, refl, none_so_far)
+pub loop-word-init : goal.loop-word-init
+loop-word-init c = none_so_far
 
-pub returns-in-Refused : goal.returns-in-Refused
-unfolding section_words line_step output_needed
-returns-in-Refused c =
-    sym
+pub returns-in_err-next : goal.returns-in_err-next
+unfolding section_words output_needed
+returns-in_err-next c =
+    let n = c.args.header.outputs in
+    let p = err_from_is_err_and c.from_residual.result c.from_residual.ensures.1 in
+    let less : c.loop-word.word-index < n =
+    omega (arith, c.loop-word-test.true, length-take-le n c.args.words.now c.requires.outputs_in_bounds) in
+    rw (p.1, p.2)
+    (sym
     (rw c.plain-most.ensures at
-    (line_refused c.loop-k.invariant.2 _ _ c.line_of-line.ensures refl
-    c.line_verdict.ensures c.in-Refused.is c.loop-k-test.true))
+    (line_refused c.loop-word.invariant _ _ _ c.line_of-line.ensures refl {n = n} c.in_err-next.ensures.refusal less)))
 
-pub loop-k-preserved : goal.loop-k-preserved
-unfolding line_step
-loop-k-preserved c =
-    let room : c.loop-k.k < length c.loop-k.words = omega (arith, c.requires.outputs_in_bounds) in (
-      omega arith,
-      simp length-set (omega arith),
-      rw (add-one c.loop-k.k, take-suc-set, ← add-one c.loop-k.k)
-          (line_fine c.loop-k.invariant.2 _ _ c.line_of-line.ensures refl c.line_verdict.ensures c.in_default.is),
-    )
+pub loop-word-preserved : goal.loop-word-preserved
+loop-word-preserved c =
+    let w = c.loop-word in
+    let room : w.word-index < length w.word-items = omega arith in
+    rw take_more_set
+    (line_fine w.invariant _ _ _ c.line_of-line.ensures refl c.in_ok-next.ensures.refusal c.in_ok-next.ensures.next)
 
 pub returns : goal.returns
 unfolding section_words output_needed
 returns c =
-    let e : c.loop-k.k ≡ c.args.header.outputs = omega arith in
-    sym (rw (e, c.plain-most.ensures) at c.loop-k.invariant.2.is)
+    let w = c.loop-word in
+    let n = c.args.header.outputs in
+    let long : length w.word-items ≡ n =
+    omega (arith, w.auto.word-items, length-take-le n c.args.words.now c.requires.outputs_in_bounds) in
+    let all : w.word-index ≡ n = omega (arith, long) in
+    let read = rw (all, c.plain-most.ensures) at w.invariant.is in
+    let stored : take n (w.word-items ++ drop n c.args.words.now) ≡ take n w.word-items = take-append-le n w.word-items _ (omega arith) in
+    rw stored (sym read)

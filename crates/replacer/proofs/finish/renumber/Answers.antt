@@ -67,16 +67,17 @@ loop-n-preserved c =
     }
 
 pub overflow_sub-result : goal.overflow_sub-result
-overflow_sub-result c = omega (arith, total c)
+overflow_sub-result c = omega (arith, total (goal.at.overflow_sub-result c).After-loop-n)
 
 pub returns : goal.returns
 unfolding new_numbers
 returns c =
     let net = c.args.graph.now.net in
     let ms = marks_in c.args.marks.now in
+    let done = (goal.at.returns c).After-loop-n in
     let lent = c.args.numbers.now in record {
-      value = omega (arith, total c);
+      value = omega (arith, total done);
       numbers_after = c.loop-n.invariant.written_so_far
-          ∙ ap (λ (n : ℕ). written (numbers_to net ms n) (set lent 0 0)) (all_done c)
+          ∙ ap (λ (n : ℕ). written (numbers_to net ms n) (set lent 0 0)) (all_done done)
           ∙ written_over (new_numbers net ms) lent 0 (omega (arith, all_numbers net ms));
     }

@@ -11,7 +11,7 @@ use Rattle.graph.specs.Literal.{var_of}
 use Rattle.checker.proofs.Marking.{marks_length}
 use Rattle.weigher.specs.Held.{set_each}
 use Rattle.weigher.proofs.Steps.{set_each_undone}
-use Rattle.weigher.proofs.Walk.{listed_fit, listed_all, listed_gate, walk_counts}
+use Rattle.weigher.proofs.Walk.{listed_all, walk_counts}
 use Rattle.weigher.proofs.held.held_back.Goals as goal
 
 both_within : (top first second : ℕ) → var_of first ≤ top → var_of second ≤ top
@@ -22,13 +22,9 @@ both_within top first second p q (suc (suc j)) h = absurd (omega arith)
 
 pub unmark-requires : goal.unmark-requires
 unmark-requires c =
-    let list = c.mark_reached-count.new.list in
-    let walk = c.mark_reached-count.ensures.holding in (
-      listed_fit _ _ _ list _ walk,
-      λ j q.
-          let gate = listed_gate _ _ _ list _ walk j q in
-          omega (arith, gate.within, marks_length c.args.marks.now, marks_length c.mark_reached-count.new.marks),
-    )
+    λ j q.
+    let gate = c.mark_reached-count.ensures.holding.gates j q in
+    omega (arith, gate.within, marks_length c.args.marks.now, marks_length c.mark_reached-count.new.marks)
 
 pub returns : goal.returns
 returns c =

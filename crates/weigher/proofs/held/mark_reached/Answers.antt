@@ -5,7 +5,6 @@ use mathlib.Core.Path.{◌≡◌, subst}
 use mathlib.Core.List.{[], ◌∷◌}
 use native.Mathlib.Omega.{arith}
 use lib.ListN.{take}
-use Rattle.graph.specs.Graph.{net_of}
 use Rattle.checker.specs.Marks.{marks_in}
 use Rattle.checker.proofs.Marking.{marks_length}
 use Rattle.weigher.specs.Held.{walked_to, Holding}

@@ -1,7 +1,7 @@
 -- What the loop keeps, and how far it has to go.
 use mathlib.Core.List.{[], ◌∷◌}
 use Prim.Native.Nat.{◌-◌}
-use Rattle.graph.specs.Graph.{net_of, size}
+use Rattle.graph.specs.Graph.{size}
 use Rattle.checker.specs.Marks.{marks_in}
 use Rattle.weigher.specs.Held.{walked_to}
 use Rattle.weigher.proofs.Walk.{Stage}

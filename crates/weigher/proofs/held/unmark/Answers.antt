@@ -1,10 +1,11 @@
 -- `weigher::held::unmark` meets its contract: the marks of the first k in the list are taken off.
 -- Assumes nothing.
-use mathlib.Core.Path.{◌≡◌, refl, ap, ◌∙◌}
+use mathlib.Core.Path.{refl, ap, ◌∙◌}
 use mathlib.Core.Bool.{Bool, false}
 use mathlib.Core.List.{List}
+use Prim.Native.Nat.{ℕ}
 use native.Mathlib.Omega.{arith}
-use lib.ListN.{length, get_or, set}
+use lib.ListN.{get_or, set}
 use lib.Seq.{take_all}
 use Rattle.checker.specs.Marks.{marks_in}
 use Rattle.checker.proofs.Marking.{marks_length}
@@ -29,4 +30,7 @@ loop-number-preserved c =
     c.put_mark.ensures ∙ ap (λ (ns : List Bool). set ns (get_or listed k 0) false) c.loop-number.invariant ∙ next
 
 pub returns : goal.returns
-returns c = ?
+returns c =
+    c.loop-number.invariant
+    ∙ ap (λ (vs : List ℕ). set_each false vs (marks_in c.args.marks.now))
+    (take_all c.loop-number.number-index c.args.listed.now (omega arith))

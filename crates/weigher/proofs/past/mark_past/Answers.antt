@@ -2,7 +2,6 @@
 -- Assumes nothing.
 use native.Mathlib.Omega.{arith}
 use lib.ListN.{length, length-set}
-use Rattle.graph.specs.Graph.{graph_of}
 use Rattle.graph.proofs.Graph.{net_well_formed}
 use Rattle.graph.proofs.Marks.{each_length}
 use Rattle.checker.specs.Marks.{marks_in}
@@ -32,6 +31,9 @@ mark_after-requires-2 c = (
 pub returns : goal.returns
 returns c =
     let graph = c.args.graph.now in
+    let outs = rw c.outputs.ensures at c.mark_each.ensures in
+    let above = rw (c.size.ensures, c.inputs.ensures) at c.mark_after.ensures in
+    let below = rw c.inputs.ensures at c.mark_after-2.ensures in
     past_root graph c.requires.well_formed.0.lawful c.args.root.0 c.requires.well_formed.1 (length (marks_in c.args.marks.now))
-    c.requires.well_formed.2 c.at.ensures c.requires.marks_value c.mark_each.ensures c.mark_after.ensures c.put_mark.ensures
-    c.mark_after-2.ensures
+    c.requires.well_formed.2 c.at.ensures c.requires.marks_value outs above c.put_mark.ensures
+    below

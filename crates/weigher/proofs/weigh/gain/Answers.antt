@@ -5,13 +5,5 @@ use Rattle.replacement.proofs.Weighed.{new_most}
 use Rattle.weigher.proofs.Weighing.{gain_counted}
 use Rattle.weigher.proofs.weigh.gain.Goals as goal
 
-pub returns-then-going-held-clause-gains : goal.returns-then-going-held-clause-gains
-returns-then-going-held-clause-gains c =
-    gain_counted _ _ _ _ _ c.held_back-held.ensures.counts_held (omega (arith, c.if-going-held.true))
-
-pub overflow_sub-result-2 : goal.overflow_sub-result-2
-overflow_sub-result-2 c =
-    omega (arith, c.if-going-held.false, c.new_gates.ensures, new_most c.args.proposal)
-
 pub returns-clause-gains : goal.returns-clause-gains
-returns-clause-gains c = gain_counted _ _ _ _ _ c.held_back-held.ensures.counts_held (omega (arith, c.new_gates.ensures))
+returns-clause-gains c = gain_counted _ _ _ _ _ c.held_back-held.ensures.counts_held (omega (arith, new_most c.args.proposal))

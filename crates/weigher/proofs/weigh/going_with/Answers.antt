@@ -1,6 +1,5 @@
 -- `weigher::weigh::going_with` meets its contract: the root's literal and one of variable 0 reach what the root does.
 -- Assumes nothing.
-use Rattle.graph.specs.Graph.{net_of}
 use Rattle.checker.specs.Marks.{marks_in}
 use Rattle.weigher.proofs.Weighing.{going_counted}
 use Rattle.weigher.proofs.weigh.going_with.Goals as goal

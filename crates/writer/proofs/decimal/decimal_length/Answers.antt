@@ -6,32 +6,32 @@ use lib.ListN.{length}
 use Rattle.text.proofs.Number.{decimal_one, decimal_size}
 use Rattle.writer.proofs.decimal.decimal_length.Goals as goal
 
-pub returns-then-number-lt10 : goal.returns-then-number-lt10
-returns-then-number-lt10 c = sym (ap length (decimal_one _ c.if-number-lt10.true))
+pub returns-in-0-to-9 : goal.returns-in-0-to-9
+returns-in-0-to-9 c = sym (ap length (decimal_one _ (omega arith)))
 
-pub returns-then-number-lt100 : goal.returns-then-number-lt100
-returns-then-number-lt100 c = decimal_size 1 _ (omega arith) (omega arith)
+pub returns-in-10-to-99 : goal.returns-in-10-to-99
+returns-in-10-to-99 c = decimal_size 1 _ (omega arith) (omega arith)
 
-pub returns-then-number-lt1000 : goal.returns-then-number-lt1000
-returns-then-number-lt1000 c = decimal_size 2 _ (omega arith) (omega arith)
+pub returns-in-100-to-999 : goal.returns-in-100-to-999
+returns-in-100-to-999 c = decimal_size 2 _ (omega arith) (omega arith)
 
-pub returns-then-number-lt10000 : goal.returns-then-number-lt10000
-returns-then-number-lt10000 c = decimal_size 3 _ (omega arith) (omega arith)
+pub returns-in-1000-to-9999 : goal.returns-in-1000-to-9999
+returns-in-1000-to-9999 c = decimal_size 3 _ (omega arith) (omega arith)
 
-pub returns-then-number-lt100000 : goal.returns-then-number-lt100000
-returns-then-number-lt100000 c = decimal_size 4 _ (omega arith) (omega arith)
+pub returns-in-10000-to-99999 : goal.returns-in-10000-to-99999
+returns-in-10000-to-99999 c = decimal_size 4 _ (omega arith) (omega arith)
 
-pub returns-then-number-lt1000000 : goal.returns-then-number-lt1000000
-returns-then-number-lt1000000 c = decimal_size 5 _ (omega arith) (omega arith)
+pub returns-in-100000-to-999999 : goal.returns-in-100000-to-999999
+returns-in-100000-to-999999 c = decimal_size 5 _ (omega arith) (omega arith)
 
-pub returns-then-number-lt10000000 : goal.returns-then-number-lt10000000
-returns-then-number-lt10000000 c = decimal_size 6 _ (omega arith) (omega arith)
+pub returns-in-1000000-to-9999999 : goal.returns-in-1000000-to-9999999
+returns-in-1000000-to-9999999 c = decimal_size 6 _ (omega arith) (omega arith)
 
-pub returns-then-number-lt100000000 : goal.returns-then-number-lt100000000
-returns-then-number-lt100000000 c = decimal_size 7 _ (omega arith) (omega arith)
+pub returns-in-10000000-to-99999999 : goal.returns-in-10000000-to-99999999
+returns-in-10000000-to-99999999 c = decimal_size 7 _ (omega arith) (omega arith)
 
-pub returns-then-number-lt1000000000 : goal.returns-then-number-lt1000000000
-returns-then-number-lt1000000000 c = decimal_size 8 _ (omega arith) (omega arith)
+pub returns-in-100000000-to-999999999 : goal.returns-in-100000000-to-999999999
+returns-in-100000000-to-999999999 c = decimal_size 8 _ (omega arith) (omega arith)
 
-pub returns : goal.returns
-returns c = decimal_size 9 _ (omega arith) (omega arith)
+pub returns-in_default : goal.returns-in_default
+returns-in_default c = decimal_size 9 _ (omega arith) (omega arith)

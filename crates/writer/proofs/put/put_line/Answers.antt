@@ -1,15 +1,11 @@
 -- `writer::put::put_line` meets its contract: after k turns the first k numbers are laid, each with the byte after it.
--- The measure is what is left of them.
 -- Assumes nothing.
-use mathlib.Core.Path.{◌≡◌}
 use mathlib.Core.List.{List}
-use Prim.Native.Nat.{ℕ, ◌<◌, suc, ◌+◌, ◌-◌, ◌≤◌}
-use native.Mathlib.Numerals.{add-one}
+use Prim.Native.Nat.{ℕ, ◌<◌, ◌+◌, ◌≤◌}
 use native.Mathlib.Omega.{arith}
 use lib.ListN.{length, get_or, length-append}
 use Rattle.text.specs.Number.{decimal}
-use Rattle.text.specs.Line.{separator, line}
-use Rattle.graph.proofs.Lent.{Put, Pieces, put_byte_then, pieces_none, pieces_length, pieces_all, piece_room, piece_then}
+use Rattle.graph.proofs.Lent.{Pieces, put_byte_then, pieces_none, pieces_length, piece_room, piece_then}
 use Rattle.writer.proofs.Writing.{number_at, line_numbers}
 use Rattle.writer.proofs.put.put_line.Goals as goal
 
@@ -38,19 +34,8 @@ pub loop-k-preserved : goal.loop-k-preserved
 loop-k-preserved c =
     let l = c.loop-k in
     let ns = c.args.numbers.now in
-    let e : c.separator.result ≡ separator (length ns - suc l.k) = rw (add-one l.k) at c.separator.ensures in
-    let fits = room c.args.numbers.now c.loop-k.invariant c.loop-k-test.true in
-    rw e
+    let fits = room ns l.invariant c.loop-k-test.true in
+    rw c.separator.ensures
     (piece_then l.invariant c.loop-k-test.true
     (put_byte_then l.next (decimal (get_or ns l.k 0)) _ l.bytes (omega arith)
     (c.put_decimal-next.ensures.value, c.put_decimal-next.ensures.bytes_after)))
-
-pub shape_of-bytes : goal.shape_of-bytes
-shape_of-bytes c = pieces_length c.loop-k.invariant
-
-pub returns : goal.returns
-returns c =
-    let ns = c.args.numbers.now in
-    let laid_all : Put c.args.at (line ns) c.args.bytes.now c.loop-k.next c.loop-k.bytes
-    = rw (line_numbers ns) (pieces_all c.loop-k.invariant c.loop-k-test.false) in
-    record { value = laid_all.0; bytes_after = laid_all.1 }
