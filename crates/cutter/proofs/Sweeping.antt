@@ -9,14 +9,17 @@ use Prim.Native.Nat.{ℕ, zero, suc, ◌+◌, ◌≤◌, ◌<◌}
 use native.Mathlib.Nat.{le_refl, le_of_suc-le-suc, not-suc-le-zero}
 use native.Mathlib.Numerals.{add-one}
 use native.Mathlib.Omega.{arith}
-use borrow.Author.Tests.{le-leb, lt-leb, eq-eqb, ne_eqb}
+use borrow.Author.Tests.{le-leb, lt-leb}
 use lib.ListN.{length, get_or, set, length-append, length-set}
 use lib.Seq.{drop-set-lt}
+use Rattle.std.specs.Prelude.{slice_get}
+use Rattle.std.specs.Option.{option_map}
+use Rattle.graph.specs.declared.lit.Var.{Var}
 use Rattle.graph.specs.Lists.{gather, keep}
-use Rattle.graph.specs.Literal.{var_of, is_odd}
+use Rattle.graph.specs.Literal.{var_of}
 use Rattle.graph.specs.Lent.{written}
 use Rattle.graph.specs.Graph.{Net, free, last, first, second, IsGate, WellFormedNet}
-use Rattle.graph.specs.Sweep.{Algebra, turned, lit_value, by_gate, values}
+use Rattle.graph.specs.Sweep.{Algebra, lit_value, by_gate, values}
 use Rattle.graph.proofs.Lists.{keep_append}
 use Rattle.graph.proofs.Sweep.{values_length, values_at, by_gate_free, by_gate_gate}
 use Rattle.graph.proofs.Swept.{written_at, written_length, written_next, Swept, swept_length, swept_zero, swept_more}
@@ -27,7 +30,7 @@ use Rattle.window.specs.Table.{words, leaf_pattern, words_up_to, table}
 use Rattle.window.proofs.Local.{literal_covered}
 use Rattle.window.proofs.TableLaws.{words_are_tables}
 use Rattle.cutter.specs.declared.next_leaf.NextLeaf.{NextLeaf}
-use Rattle.cutter.specs.Sweeping.{Ahead, Sweeping, covered_ahead, table_ahead, covered_in}
+use Rattle.cutter.specs.Sweeping.{Ahead, Sweeping, next_is, covered_ahead, table_ahead, covered_in}
 use Rattle.cutter.proofs.Passed.{ahead_none, place_below_limit}
 
 -- inside the list the default is not asked for
@@ -41,15 +44,6 @@ get_d_inside (x ∷ xs) (suc k) d e h = get_d_inside xs k d e (le_of_suc-le-suc 
 covered_literal : (covers : List Bool) (l : ℕ) → var_of l < length covers → lit_value coverage covers l ≡ get_or covers (var_of l) false
 covered_literal covers l h = literal_covered covers l ∙ get_d_inside covers (var_of l) true false h
 
-module _ (tables : List ℕ) (l : ℕ) {t : ℕ} (e : t ≡ get_or tables (var_of l) 0) where
-  pub table_turned : is_odd l ≡ true → words.neg t ≡ lit_value words tables l
-  unfolding lit_value turned words
-  table_turned h = rw (h, e)
-
-  pub table_plain : is_odd l ≡ false → t ≡ lit_value words tables l
-  unfolding lit_value turned words
-  table_plain h = rw (h, e)
-
 module _ {net : Net} {next : NextLeaf} {v : ℕ} (s : Sweeping net next v) where
   pub fanins_below : free net < v → (var_of (first net v) < v) × (var_of (second net v) < v)
   fanins_below h =
@@ -58,37 +52,45 @@ module _ {net : Net} {next : NextLeaf} {v : ℕ} (s : Sweeping net next v) where
       let order = s.net_ok.lawful.ordered v gate in
       (omega arith, omega arith)
 
-  module _ (leaf : v ≡ next.leaf.0) where
+  module _ (leaf : next_is next v ≡ true) where
     pub covered_leaf : (x : Bool) → Option.get_or (covered_ahead net next v) x ≡ true
     unfolding covered_ahead
-    covered_leaf x = rw (covered_ahead, eq-eqb v next.leaf.0 leaf)
+    covered_leaf x = rw (covered_ahead, leaf)
 
     -- a leaf has its pattern, whatever its gate gives
     pub table_leaf : (x : ℕ) → Option.get_or (table_ahead next v) x ≡ leaf_pattern next.place
     unfolding table_ahead
-    table_leaf x = rw (table_ahead, eq-eqb v next.leaf.0 leaf)
+    table_leaf x = rw (table_ahead, leaf)
 
-  module _ (other : ¬ (v ≡ next.leaf.0)) where
+  module _ (other : next_is next v ≡ false) where
     pub covered_input : v ≤ free net → (x : Bool) → Option.get_or (covered_ahead net next v) x ≡ false
     unfolding covered_ahead
-    covered_input h x = rw (covered_ahead, ne_eqb v next.leaf.0 other, le-leb v (free net) h)
+    covered_input h x = rw (covered_ahead, other, le-leb v (free net) h)
 
-    -- the code reads the two at places a and b
-    pub covered_gate : free net < v → (covers : List Bool) {a b : ℕ} → v ≤ length covers
-        → a ≡ var_of (first net v)
-        → b ≡ var_of (second net v)
-        → Option.get_or (covered_ahead net next v) (by_gate coverage net v covers) ≡ get_or covers a false && get_or covers b false
-    unfolding covered_ahead coverage
-    covered_gate h covers room p q =
-        rw (covered_ahead, ne_eqb v next.leaf.0 other, lt-leb v (free net) h, p, q)
-        (by_gate_gate coverage net v covers h
-        ∙ ap₂ ◌&&◌
-        (covered_literal covers (first net v) (omega (arith, fanins_below h)))
-        (covered_literal covers (second net v) (omega (arith, fanins_below h))))
+    -- the code reads the two at places a and b, and the second only where the first is covered
+    module _ (h : free net < v) (covers : List Bool) where
+      covered_gate : v ≤ length covers
+          → Option.get_or (covered_ahead net next v) (by_gate coverage net v covers)
+          ≡ get_or covers (var_of (first net v)) false && get_or covers (var_of (second net v)) false
+      unfolding covered_ahead coverage
+      covered_gate room =
+          rw (covered_ahead, other, lt-leb v (free net) h)
+          (by_gate_gate coverage net v covers h
+          ∙ ap₂ ◌&&◌
+          (covered_literal covers (first net v) (omega (arith, fanins_below h)))
+          (covered_literal covers (second net v) (omega (arith, fanins_below h))))
+
+      module _ {a : ℕ} (room : v ≤ length covers) (p : a ≡ var_of (first net v)) where
+        pub covered_both : {b : ℕ} → b ≡ var_of (second net v) → get_or covers a false ≡ true
+            → Option.get_or (covered_ahead net next v) (by_gate coverage net v covers) ≡ get_or covers b false
+        covered_both q e = covered_gate room ∙ rw (sym p, e, q)
+
+        pub covered_not : get_or covers a false ≡ false → Option.get_or (covered_ahead net next v) (by_gate coverage net v covers) ≡ false
+        covered_not e = covered_gate room ∙ rw (sym p, e)
 
     own_none : (x : ℕ) → Option.get_or (table_ahead next v) x ≡ x
     unfolding table_ahead
-    own_none x = rw (table_ahead, ne_eqb v next.leaf.0 other)
+    own_none x = rw (table_ahead, other)
 
     pub table_input : v ≤ free net → (tables : List ℕ) → Option.get_or (table_ahead next v) (by_gate words net v tables) ≡ words.no
     table_input h tables = own_none _ ∙ by_gate_free words net v tables h
@@ -120,7 +122,7 @@ module _ {A : Type 0} {K : Algebra A} {own : ℕ → Option A} {net : Net} {w : 
     pub sweep_none : x ≡ K.no → WellFormedNet net × (root ≤ last net) → WellSet root w × (root < length lent)
         → {next : NextLeaf}
         → next.place ≡ 0
-        → next.leaf.0 ≡ get_or (leaf_list w) 0 0
+        → option_map (λ (u : Var). u.0) next.leaf ≡ slice_get (leaf_list w) 0
         → Sweep K own net w root (set lent 0 x) (set lent 0 x) next 0
     sweep_none e (ok, known) (well, room) p q =
         record {
@@ -145,14 +147,13 @@ module _ {A : Type 0} {K : Algebra A} {own : ℕ → Option A} {net : Net} {w : 
     pub sweep_length : length list ≡ length lent
     sweep_length = ap length s.swept ∙ swept_length K own net lent n (omega arith)
 
-    pub sweep_ahead : Ahead w (n + 1) next × (0 < n + 1)
-    sweep_ahead = (rw (add-one n) s.ahead, omega arith)
+    pub sweep_ahead : Ahead w (n + 1) next
+    sweep_ahead = rw (add-one n) s.ahead
 
     module _ (h : n < root) where
       pub sweep_next : Sweeping net next (n + 1)
       sweep_next =
-          let (a, above) = sweep_ahead in
-          record { net_ok = s.net_ok; within = omega arith; place_ok = place_below_limit a above }
+          record { net_ok = s.net_ok; within = omega arith; place_ok = place_below_limit sweep_ahead }
 
       -- what the next variable has is set down at its place; o is what it has itself, by the next leaf
       pub sweep_more : (x : A) {o : Option A} {at : ℕ} {after : NextLeaf} → x ≡ Option.get_or o (by_gate K net (n + 1) list)
@@ -251,21 +252,19 @@ module _ (covers : List Bool) where
     listed_length h = ap length s.listed ∙ written_length (covered_in covers n) lent (omega (arith, covered_in_few n))
 
     -- the code looks at variable n's place, and puts n down where it is covered
-    pub listed_more : n < length lent → {at : ℕ} → at ≡ n → {list' : List ℕ} {count' : ℕ}
-        → count' ≡ cond (get_or covers at false) (suc count) count
-        → list' ≡ cond (get_or covers at false) (set list count n) list
-        → Listed lent list' count' (n + 1)
-    listed_more h e p q =
-        let (more, after) = go (get_or covers n false) in
-        record { counted = p ∙ rw (e, add-one n, covered_in_more n) more; listed = q ∙ rw (e, add-one n, covered_in_more n) after }
-      where
-        go : (b : Bool)
-            → let xs = covered_in covers n in
-            (cond b (suc count) count ≡ length (cond b (xs ++ (n ∷ [])) xs))
-            × (cond b (set list count n) list ≡ written (cond b (xs ++ (n ∷ [])) xs) lent)
-        go true = (
-          omega (arith, s.counted, length-append (covered_in covers n) (n ∷ [])),
-          ap₂ (λ (ws : List ℕ) (k : ℕ). set ws k n) s.listed s.counted
-              ∙ written_next (covered_in covers n) n lent (omega (arith, covered_in_few n)),
-        )
-        go false = (s.counted, s.listed)
+    module _ {at : ℕ} (e : at ≡ n) where
+      pub listed_on : n < length lent → get_or covers at false ≡ true → Listed lent (set list count n) (count + 1) (n + 1)
+      listed_on h t =
+          let more : covered_in covers (suc n) ≡ covered_in covers n ++ (n ∷ []) = covered_in_more n ∙ rw (sym e, t) in
+          rw (add-one n) (record {
+            counted = rw more (omega (arith, s.counted, length-append (covered_in covers n) (n ∷ [])));
+            listed = rw more (
+                ap₂ (λ (ws : List ℕ) (k : ℕ). set ws k n) s.listed s.counted
+                ∙ written_next (covered_in covers n) n lent (omega (arith, covered_in_few n))
+                );
+          })
+
+      pub listed_off : get_or covers at false ≡ false → Listed lent list count (n + 1)
+      listed_off t =
+          let same : covered_in covers (suc n) ≡ covered_in covers n = covered_in_more n ∙ rw (sym e, t) in
+          rw (add-one n) (record { counted = rw same s.counted; listed = rw same s.listed })

@@ -9,43 +9,26 @@ pub mod tables;
 pub mod verdict;
 
 ghost use Rattle.std.specs.Prelude.{◌≡◌};
-ghost use Rattle.graph.specs.Graph.{graph_of};
 ghost use Rattle.window.specs.Calls.{pick_answer, table_answer};
 
-use graph::{Var, Verdict};
+use graph::{LentGraph, Refusal, Var};
 use rule::pick_leaves;
 use tables::root_table;
 use verdict::{root_verdict, window_verdict};
-use window::{Leaves, Picked, RootTable, Table};
+use window::{Leaves, Table};
 
 // Picks leaves: the set that the leaf rule comes to; or why it is refused.
-pub fn pick(inputs: usize, gates: &[u32], outputs: &[u32], root: Var) -> Picked
-    ensures { result ≡ pick_answer (graph_of inputs gates.now outputs.now) root.0 }
+pub fn pick(graph: &LentGraph, root: Var) -> Result<Leaves, Refusal>
+    ensures { result ≡ pick_answer graph.now root.0 }
 {
-    match root_verdict(inputs, gates, outputs, root) {
-        Verdict::Refused(refusal) => Picked {
-            verdict: Verdict::Refused(refusal),
-            leaves: Leaves::none(),
-        },
-        Verdict::Fine => Picked {
-            verdict: Verdict::Fine,
-            leaves: pick_leaves(inputs, gates, root),
-        },
-    }
+    root_verdict(graph, root)?;
+    Ok(pick_leaves(graph, root))
 }
 
 // Asks for the root's table over the leaves: its 64 bits; or why it is refused.
-pub fn table(inputs: usize, gates: &[u32], outputs: &[u32], root: Var, leaves: Leaves) -> RootTable
-    ensures { result ≡ table_answer (graph_of inputs gates.now outputs.now) root.0 leaves }
+pub fn table(graph: &LentGraph, root: Var, leaves: Leaves) -> Result<Table, Refusal>
+    ensures { result ≡ table_answer graph.now root.0 leaves }
 {
-    match window_verdict(inputs, gates, outputs, root, leaves) {
-        Verdict::Refused(refusal) => RootTable {
-            verdict: Verdict::Refused(refusal),
-            table: Table::zero(),
-        },
-        Verdict::Fine => RootTable {
-            verdict: Verdict::Fine,
-            table: root_table(inputs, gates, leaves, root),
-        },
-    }
+    window_verdict(graph, root, leaves)?;
+    Ok(root_table(graph, leaves, root))
 }

@@ -1,73 +1,57 @@
 // The leaf rule. Expansions are compared by their counts, and only the one that is taken is built.
-ghost use Rattle.std.specs.Prelude.{◌≡◌};
+ghost use Rattle.std.specs.Prelude.{◌≡◌, None};
 ghost use Rattle.graph.specs.Lists.{◌∈◌};
-ghost use Rattle.graph.specs.Graph.{net_of, IsGate, WellFormedNet};
+ghost use Rattle.graph.specs.Graph.{IsGate, WellFormedNet};
 ghost use Rattle.window.specs.Leaves.{leaf_list};
 ghost use Rattle.window.specs.LeafRule.{picked};
-ghost use Rattle.cutter.specs.Picking.{better, best, none_yet, Choosing};
+ghost use Rattle.cutter.specs.Picking.{better, best, Choosing};
 
-use graph::Var;
+use graph::{LentGraph, Var};
 use window::{LEAF_LIMIT, Leaves};
 
-// The leaf whose expansion is the smallest so far, and how many leaves that has; variable 0 and the limit where there is none.
-#[derive(Clone, Copy)]
+// The leaf whose expansion is the smallest so far, and how many leaves that has.
+#[derive(Clone, Copy, Debug, PartialEq, Eq)]
 pub struct Choice {
     pub leaf: Var,
     pub count: usize,
 }
 
-// The better of `best` and the expansion of v, if v is a gate: the smaller, v's on ties.
-fn better(leaves: Leaves, inputs: usize, gates: &[u32], v: Var, best: Choice) -> Choice
-    requires { Choosing (net_of inputs gates.now) leaves × (v.0 ∈ leaf_list leaves) }
-    ensures { result ≡ better (net_of inputs gates.now) (leaf_list leaves) best v.0 }
+// The better of `best` and the expansion of v, if v is a gate: the smaller, v's on ties. One of more than six leaves is none.
+fn better(leaves: Leaves, graph: &LentGraph, v: Var, best: Option<Choice>) -> Option<Choice>
+    requires { Choosing graph.now.net leaves × (v.0 ∈ leaf_list leaves) }
+    ensures { result ≡ better graph.now.net (leaf_list leaves) best v.0 }
 {
-    if v.at() <= inputs {
+    if v.at() <= graph.inputs() {
         return best;
     }
-    let count = leaves.expanded_count(inputs, gates, v);
-    if best.count < count {
+    let count = leaves.expanded_count(graph, v);
+    if best.map_or(LEAF_LIMIT, |choice| choice.count) < count {
         return best;
     }
-    Choice {
-        leaf: v,
-        count: count,
-    }
+    Some(Choice { leaf: v, count })
 }
 
 // The leaf whose expansion is the smallest, the highest one on ties, if an expansion has at most six leaves.
-fn best_leaf(leaves: Leaves, inputs: usize, gates: &[u32]) -> Choice
-    requires { Choosing (net_of inputs gates.now) leaves }
-    ensures { result ≡ best (net_of inputs gates.now) (leaf_list leaves) (leaf_list leaves) none_yet }
+fn best_leaf(leaves: Leaves, graph: &LentGraph) -> Option<Choice>
+    requires { Choosing graph.now.net leaves }
+    ensures { result ≡ best graph.now.net (leaf_list leaves) (leaf_list leaves) None }
 {
-    let n = leaves.count;
-    let mut best = Choice {
-        leaf: Var(0),
-        count: LEAF_LIMIT,
-    };
-    let mut k = 0;
-    while k < n {
-        let v = leaves.places[k];
-        best = better(leaves, inputs, gates, v, best);
-        k += 1;
+    let mut best = None;
+    for &v in leaves.as_slice() {
+        best = better(leaves, graph, v, best);
     }
     best
 }
 
 // The leaf rule: the smallest expansion is taken until there is none. A variable that gave way can come back, so no number of gates
 // bounds the turns; what falls is the sum of 2 ^ v over the leaves v.
-pub fn pick_leaves(inputs: usize, gates: &[u32], root: Var) -> Leaves
-    requires { WellFormedNet (net_of inputs gates.now) × IsGate (net_of inputs gates.now) root.0 }
-    ensures { result ≡ picked (net_of inputs gates.now) root.0 }
+pub fn pick_leaves(graph: &LentGraph, root: Var) -> Leaves
+    requires { WellFormedNet graph.now.net × IsGate graph.now.net root.0 }
+    ensures { result ≡ picked graph.now.net root.0 }
 {
-    let start = Leaves::none().with_fanins(inputs, gates, root);
-    let mut leaves = start.leaves;
-    loop {
-        let choice = best_leaf(leaves, inputs, gates);
-        if choice.leaf.0 == 0 {
-            break;
-        }
-        let next = leaves.expand(inputs, gates, choice.leaf);
-        leaves = next.leaves;
+    let mut leaves = Leaves::none().with_fanins(graph, root).unwrap();
+    while let Some(choice) = best_leaf(leaves, graph) {
+        leaves = leaves.expand(graph, choice.leaf).unwrap();
     }
     leaves
 }

@@ -3,14 +3,14 @@ ghost use Rattle.std.specs.Prelude.{◌≡◌, ◌<◌, ◌≤◌, length, get_o
 ghost use Rattle.std.proofs.Math.Option;
 ghost use Rattle.graph.specs.Literal.{var_of};
 ghost use Rattle.graph.specs.Lent.{written};
-ghost use Rattle.graph.specs.Graph.{net_of, last, WellFormedNet};
+ghost use Rattle.graph.specs.Graph.{last, WellFormedNet};
 ghost use Rattle.graph.specs.Sweep.{lit_value, by_gate};
 ghost use Rattle.window.specs.Leaves.{WellSet};
 ghost use Rattle.window.specs.Table.{words, words_up_to, table};
 ghost use Rattle.cutter.specs.Sweeping.{Sweeping, table_ahead};
 
-use crate::next_leaf::{NextLeaf, leaf_from, passed};
-use graph::{Lit, MOST_VARIABLES, Var, fanins_of};
+use crate::next_leaf::NextLeaf;
+use graph::{LentGraph, Lit, MOST_VARIABLES, Var};
 use window::{Leaves, Table};
 
 // The table that lent words hold of variable v. Tables are read and stored through this function and the next alone.
@@ -18,73 +18,64 @@ pub fn table_at(tables: &[u64], v: Var) -> Table
     requires { v.0 < length tables.now }
     ensures { result.0 ≡ get_or tables.now v.0 0 }
 {
-    let at = v.at();
-    Table(tables[at])
+    Table(tables[v.at()])
 }
 
 fn set_table(tables: &mut [u64], v: Var, t: Table)
     requires { v.0 < length tables.old }
     ensures { tables.new ≡ set tables.old v.0 t.0 }
 {
-    let at = v.at();
-    tables[at] = t.0;
+    tables[v.at()] = t.0;
 }
 
 // The table of a literal.
+#[tactic(auto, unfolding(graph::specs::Sweep::lit_value, graph::specs::Sweep::turned))]
 pub fn literal_table(tables: &[u64], l: Lit) -> Table
     requires { var_of l.0 < length tables.now }
     ensures { result.0 ≡ lit_value words tables.now l.0 }
 {
     let t = table_at(tables, l.var());
-    if l.is_complement() {
-        return t.complement();
-    }
-    t
+    if l.is_complement() { t.complement() } else { t }
 }
 
 // The table of variable v, where `tables` has those below it: a leaf has its pattern, even one that is a gate.
-fn variable_table(inputs: usize, gates: &[u32], tables: &[u64], v: Var, next: NextLeaf) -> Table
-    requires { Sweeping (net_of inputs gates.now) next v.0 × (v.0 ≤ length tables.now) }
-    ensures { result.0 ≡ Option.get_or (table_ahead next v.0)
-        (by_gate words (net_of inputs gates.now) v.0 tables.now) }
+fn variable_table(graph: &LentGraph, tables: &[u64], v: Var, next: NextLeaf) -> Table
+    requires { Sweeping graph.now.net next v.0 × (v.0 ≤ length tables.now) }
+    ensures { result.0 ≡ Option.get_or (table_ahead next v.0) (by_gate words graph.now.net v.0 tables.now) }
 {
-    if v.0 == next.leaf.0 {
+    if next.is(v) {
         return Table::of_leaf(next.place);
     }
-    if v.at() <= inputs {
+    if v.at() <= graph.inputs() {
         return Table::zero();
     }
-    let gate = fanins_of(inputs, gates, v);
-    let first = literal_table(tables, gate.first);
-    let second = literal_table(tables, gate.second);
-    first.and(second)
+    let gate = graph.fanins_of(v);
+    literal_table(tables, gate.first).and(literal_table(tables, gate.second))
 }
 
 // The tables of the variables 0 to the root stand at the front of `tables`.
-pub fn fill_tables(inputs: usize, gates: &[u32], leaves: Leaves, root: Var, tables: &mut [u64])
-    requires well_formed_net { WellFormedNet (net_of inputs gates.now) × (root.0 ≤ last (net_of inputs gates.now)) }
+pub fn fill_tables(graph: &LentGraph, leaves: Leaves, root: Var, tables: &mut [u64])
+    requires well_formed_net { WellFormedNet graph.now.net × (root.0 ≤ last graph.now.net) }
     requires well_set { WellSet root.0 leaves × (root.0 < length tables.old) }
-    ensures { tables.new
-        ≡ written (words_up_to (net_of inputs gates.now) leaves root.0) tables.old }
+    ensures { tables.new ≡ written (words_up_to graph.now.net leaves root.0) tables.old }
 {
     set_table(tables, Var(0), Table::zero());
-    let mut next = leaf_from(leaves, 0);
-    let mut n = 0;
-    while n < root.0 {
+    let mut next = NextLeaf::at(leaves, 0);
+    for n in 0..root.0 {
         let v = Var(n + 1);
-        let t = variable_table(inputs, gates, tables, v, next);
+        let t = variable_table(graph, tables, v, next);
         set_table(tables, v, t);
-        next = passed(leaves, next, v);
-        n = v.0;
+        next = next.past(leaves, v);
     }
 }
 
 // The root's own table.
-pub fn root_table(inputs: usize, gates: &[u32], leaves: Leaves, root: Var) -> Table
-    requires { WellFormedNet (net_of inputs gates.now) × (root.0 ≤ last (net_of inputs gates.now)) × WellSet root.0 leaves }
-    ensures { result.0 ≡ table (net_of inputs gates.now) leaves root.0 }
+#[tactic(auto, using(crate::proofs::Sweeping::table_in))]
+pub fn root_table(graph: &LentGraph, leaves: Leaves, root: Var) -> Table
+    requires { WellFormedNet graph.now.net × (root.0 ≤ last graph.now.net) × WellSet root.0 leaves }
+    ensures { result.0 ≡ table graph.now.net leaves root.0 }
 {
     let mut tables = [0u64; MOST_VARIABLES];
-    fill_tables(inputs, gates, leaves, root, &mut tables);
+    fill_tables(graph, leaves, root, &mut tables);
     table_at(&tables, root)
 }

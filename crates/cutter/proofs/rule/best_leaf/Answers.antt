@@ -1,42 +1,34 @@
--- `cutter::rule::best_leaf` meets its contract: so far it is the best of the leaves before k.
+-- `cutter::rule::best_leaf` meets its contract: with the leaves from the next one on it comes to the best of all.
 -- Assumes nothing.
-use mathlib.Core.Path.{◌≡◌, sym, ap, ◌∙◌, subst⁻¹}
-use mathlib.Core.List.{List}
-use Prim.Native.Nat.{ℕ}
-use native.Mathlib.Omega.{arith}
-use borrow.Author.Rules.{rules}
-use lib.ListN.{length, get_or, take}
-use Rattle.graph.specs.Lists.{◌∈◌}
-use Rattle.graph.specs.Graph.{net_of}
-use Rattle.graph.proofs.Members.{at_place}
-use Rattle.window.specs.Leaves.{leaf_list}
+use Rattle.std.proofs.Common.{ℕ, ◌+◌, List, get_or, drop, Option, None, sym, ap, ◌∙◌}
+use Rattle.window.specs.Leaves.{numbers, leaf_list}
+use Rattle.window.proofs.Along.{rest_more, rest_end}
 use Rattle.cutter.specs.declared.rule.Choice.{Choice}
-use Rattle.cutter.specs.Picking.{better, best, none_yet}
-use Rattle.window.proofs.Along.{length_held, along, along_more, next_leaf, take_more}
-use Rattle.cutter.proofs.Picking.{best_none, best_more}
+use Rattle.cutter.specs.Picking.{best}
+use Rattle.cutter.proofs.Picking.{leaf_in, best_next, best_done}
 use Rattle.cutter.proofs.rule.best_leaf.Goals as goal
-
-pub loop-k-init : goal.loop-k-init
-loop-k-init c =
-    let six : length c.args.leaves.places ≡ 6 = search (rules, length_held) in
-    (along c.args.leaves 0 six c.requires.few (omega arith), sym (best_none _ (leaf_list c.args.leaves) none_yet))
 
 pub better-best-requires : goal.better-best-requires
 better-best-requires c =
-    let leaves = leaf_list c.args.leaves in
-    let (a, _) = c.loop-k.invariant in
-    (c.requires, subst⁻¹ (λ (v : ℕ). v ∈ leaves) (next_leaf a (omega arith)) (at_place 0 leaves c.loop-k.k (omega arith)))
+    (c.requires, leaf_in c.args.leaves _ c.as_slice-v-items.ensures c.loop-v.v-index c.loop-v-test.true)
 
-pub loop-k-preserved : goal.loop-k-preserved
-loop-k-preserved c =
-    let net = net_of c.args.inputs c.args.gates.now in
+pub loop-v-preserved : goal.loop-v-preserved
+loop-v-preserved c =
+    let net = c.args.graph.now.net in
     let xs = leaf_list c.args.leaves in
-    let k = c.loop-k.k in
-    let (a, e) = c.loop-k.invariant in (
-      along_more a (omega arith),
-      c.better-best.ensures
-          ∙ ap (λ (v : ℕ). better net xs c.loop-k.best v) (next_leaf a (omega arith))
-          ∙ ap (λ (b : Choice). better net xs b (get_or xs k 0)) e
-          ∙ sym (best_more net xs (take k xs) (get_or xs k 0) none_yet)
-          ∙ ap (λ (vs : List ℕ). best net xs vs none_yet) (take_more xs k (omega arith)),
-    )
+    let leaves = c.as_slice-v-items.result.now in
+    let k = c.loop-v.v-index in
+    ap (λ (b : Option Choice). best net xs (numbers (drop (k + 1) leaves)) b) c.better-best.ensures
+    ∙ sym (best_next net xs (get_or leaves k (record { 0 = 0 })).0 (numbers (drop (k + 1) leaves)) c.loop-v.best)
+    ∙ ap (λ (vs : List ℕ). best net xs vs c.loop-v.best) (sym (rest_more leaves k c.loop-v-test.true))
+    ∙ c.loop-v.invariant
+
+pub returns : goal.returns
+returns c =
+    let net = c.args.graph.now.net in
+    let xs = leaf_list c.args.leaves in
+    let leaves = c.as_slice-v-items.result.now in
+    sym (best_done net xs c.loop-v.best)
+    ∙ ap (λ (vs : List ℕ). best net xs vs c.loop-v.best) (sym (rest_end leaves c.loop-v.v-index c.loop-v-test.false))
+    ∙ c.loop-v.invariant
+    ∙ ap (λ (vs : List ℕ). best net xs vs None) c.as_slice-v-items.ensures

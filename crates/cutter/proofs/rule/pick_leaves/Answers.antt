@@ -1,70 +1,74 @@
 -- `cutter::rule::pick_leaves` meets its contract: where the rule comes to from these leaves, it comes to from the root's fanin variables.
 -- The measure is the sum of 2 ^ v over the leaves v, a number of the logic: no machine word holds it. Assumes nothing.
-use mathlib.Core.Path.{◌≡◌, ◌∙◌, subst⁻¹}
-use mathlib.Core.List.{[]}
-use Prim.Native.Nat.{ℕ}
-use native.Mathlib.Omega.{arith}
-use Rattle.graph.specs.Graph.{Net, net_of, IsGate}
+use Rattle.std.proofs.Common.{◌≡◌, ℕ, [], Option, Some, None, refl, sym, ◌∙◌, arith}
+use mathlib.Core.Path.{subst⁻¹}
+use Rattle.std.proofs.lemmas.Option.{same_Some}
+use Rattle.graph.specs.Graph.{Net}
 use Rattle.window.specs.declared.leaf_set.Leaves.{Leaves}
-use Rattle.window.specs.Leaves.{leaf_list, leaves_of}
-use Rattle.window.specs.LeafRule.{with_fanins}
+use Rattle.window.specs.Leaves.{leaf_limit, leaf_list, leaves_of}
+use Rattle.window.specs.LeafRule.{with_fanins, expand, Expandable, Chosen}
 use Rattle.window.proofs.Expansions.{fanins_length}
-use Rattle.window.proofs.Growing.{list_of, tidy_of, fits_leaves}
+use Rattle.window.proofs.Growing.{list_of, fits}
 use Rattle.cutter.specs.declared.rule.Choice.{Choice}
-use Rattle.cutter.specs.Picking.{best, none_yet}
+use Rattle.cutter.specs.Picking.{best}
 use Rattle.cutter.proofs.Picking.{Decided, best_decides, decided_on, decided_off}
-use Rattle.cutter.proofs.Picking.{Going, going_start, going_choosing, going_more, going_less, going_end}
+use Rattle.cutter.proofs.Picking.{Going, going_start, going_choosing, going_expands, going_more, going_less, going_end}
 use Rattle.cutter.proofs.rule.pick_leaves.Goals as goal
-use Rattle.cutter.proofs.rule.pick_leaves.Goals.{At-loop-choice}
+use Rattle.cutter.proofs.rule.pick_leaves.Goals.{After-with_fanins, In-Some}
 
-begins : (l : At-loop-choice)
-    → l.with_fanins-start.result.leaves ≡ leaves_of (with_fanins (net_of l.args.inputs l.args.gates.now) l.args.root.0 [])
-begins l =
-    fits_leaves l.with_fanins-start.result _ (l.with_fanins-start.ensures ∙ rw (list_of _ [] l.none.ensures))
-    (omega (arith, fanins_length (net_of l.args.inputs l.args.gates.now) l.args.root.0 []))
-
-going : (l : At-loop-choice) → Going (net_of l.args.inputs l.args.gates.now) l.args.root.0 l.loop-choice.leaves
-going l = l.loop-choice.invariant l.args.root.0 l.requires.0 l.requires.1 (begins l)
+-- the root's fanin variables have room
+begins : (c : After-with_fanins) → c.with_fanins.result ≡ Some (leaves_of (with_fanins c.args.graph.now.net c.args.root.0 []))
+begins c =
+    c.with_fanins.ensures
+    ∙ rw (list_of _ [] c.none.ensures) (fits _ (omega (arith, fanins_length c.args.graph.now.net c.args.root.0 [])))
 
 -- the best of all leaves decides
-best_decided : {net : Net} {root : ℕ} {w : Leaves} {choice : Choice} → Going net root w
-    → choice ≡ best net (leaf_list w) (leaf_list w) none_yet
+best_decided : {net : Net} {root : ℕ} {w : Leaves} {choice : Option Choice} → Going net root w
+    → choice ≡ best net (leaf_list w) (leaf_list w) None
     → Decided net (leaf_list w) choice
 best_decided {net} {root} {w} g e = subst⁻¹ (Decided net (leaf_list w)) e (best_decides net (leaf_list w) g.cut.ascending)
 
-pub with_fanins-start-requires : goal.with_fanins-start-requires
-with_fanins-start-requires c =
-    ((tidy_of _ [] c.none.ensures (omega arith)).few, c.requires.0.inputs_few, c.requires.1)
+taken : (c : In-Some) → let net = c.args.graph.now.net in let xs = leaf_list c.loop-choice.leaves in let v = c.in-Some.choice.leaf.0 in
+    Expandable leaf_limit net xs v × Chosen leaf_limit net xs (expand net xs v)
+taken c = decided_on _ _ (best_decided c.loop-choice.invariant c.best_leaf.ensures) c.in-Some.is
+
+pub unwrap-leaves-requires : goal.unwrap-leaves-requires
+unwrap-leaves-requires c = rw (begins c) refl
 
 pub loop-choice-init : goal.loop-choice-init
-loop-choice-init c = λ v ok gate e. going_start _ v ok gate _ e
+loop-choice-init c =
+    going_start _ _ c.requires.0 c.requires.1 _
+    (same_Some _ _ (sym c.unwrap-leaves.ensures ∙ begins (goal.at.loop-choice-init c).After-with_fanins))
 
-pub best_leaf-choice-requires : goal.best_leaf-choice-requires
-best_leaf-choice-requires c = going_choosing _ _ c.requires.0 c.requires.1 _ (going c)
+pub best_leaf-requires : goal.best_leaf-requires
+best_leaf-requires c = going_choosing _ _ c.requires.0 c.requires.1 _ c.loop-choice.invariant
 
-pub expand-next-requires : goal.expand-next-requires
-expand-next-requires c =
-    let net = net_of c.args.inputs c.args.gates.now in
-    let g = going (goal.at.expand-next-requires c).At-loop-choice in
-    let ok = going_choosing _ _ c.requires.0 c.requires.1 _ g in
-    let on = (decided_on _ _ (best_decided g c.best_leaf-choice.ensures) c.if-choice-eq0.false).0 in
-    let gate : IsGate net c.best_leaf-choice.result.leaf.0 = record { above = on.is_gate; within = ok.within _ on.is_leaf } in
-    (ok.few, ok.net_ok.inputs_few, gate)
+pub expand-requires : goal.expand-requires
+expand-requires c =
+    let (leaf, _) = taken (goal.at.expand-requires c).In-Some in
+    let within = (going_choosing _ _ c.requires.0 c.requires.1 _ c.loop-choice.invariant).within _ leaf.is_leaf in
+    (c.requires.0.inputs_few, record { above = leaf.is_gate; within = within })
+
+pub unwrap-leaves-requires-in-Some : goal.unwrap-leaves-requires-in-Some
+unwrap-leaves-requires-in-Some c =
+    let (_, on) = taken (goal.at.unwrap-leaves-requires-in-Some c).In-Some in
+    rw (going_expands _ _ c.requires.0 c.requires.1 _ c.loop-choice.invariant _ on c.expand.ensures) refl
 
 pub loop-choice-smaller : goal.loop-choice-smaller
 loop-choice-smaller c =
-    let g = going (goal.at.loop-choice-smaller c).At-loop-choice in
-    let on = (decided_on _ _ (best_decided g c.best_leaf-choice.ensures) c.if-choice-eq0.false).1 in
-    going_less _ _ c.requires.0 c.requires.1 _ g _ on _ c.expand-next.ensures
+    let (_, on) = taken (goal.at.loop-choice-smaller c).In-Some in
+    let g = c.loop-choice.invariant in
+    let grown = going_expands _ _ c.requires.0 c.requires.1 _ g _ on c.expand.ensures in
+    going_less _ _ c.requires.0 c.requires.1 _ g _ on _ (same_Some _ _ (sym c.unwrap-leaves-in-Some.ensures ∙ grown))
 
 pub loop-choice-preserved : goal.loop-choice-preserved
 loop-choice-preserved c =
-    let g = going (goal.at.loop-choice-preserved c).At-loop-choice in
-    let on = (decided_on _ _ (best_decided g c.best_leaf-choice.ensures) c.if-choice-eq0.false).1 in
-    λ v ok gate q. going_more _ v ok gate _ (c.loop-choice.invariant v ok gate q) _ on _ c.expand-next.ensures
+    let (_, on) = taken (goal.at.loop-choice-preserved c).In-Some in
+    let g = c.loop-choice.invariant in
+    let grown = going_expands _ _ c.requires.0 c.requires.1 _ g _ on c.expand.ensures in
+    going_more _ _ c.requires.0 c.requires.1 _ g _ on _ (same_Some _ _ (sym c.unwrap-leaves-in-Some.ensures ∙ grown))
 
 pub returns : goal.returns
 returns c =
-    let g = going (goal.at.returns c).At-loop-choice in
-    let off = decided_off _ _ (best_decided g c.best_leaf-choice.ensures) c.if-choice-eq0.true in
-    going_end _ _ c.requires.0 c.requires.1 _ g off
+    let off = decided_off _ _ (best_decided c.loop-choice.invariant c.best_leaf.ensures) c.in_default.is in
+    going_end _ _ c.requires.0 c.requires.1 _ c.loop-choice.invariant off

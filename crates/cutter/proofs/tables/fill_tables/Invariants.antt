@@ -1,7 +1,6 @@
--- What the loop keeps, and how far it has to go.
-use mathlib.Core.List.{List}
-use Prim.Native.Nat.{ℕ, ◌-◌}
-use Rattle.graph.specs.Graph.{Net, net_of}
+-- The front of the list has the tables of the variables 0 to n.
+use Rattle.std.proofs.Common.{ℕ, List}
+use Rattle.graph.specs.Graph.{Net}
 use Rattle.window.specs.declared.leaf_set.Leaves.{Leaves}
 use Rattle.window.specs.Local.{leaf_own}
 use Rattle.window.specs.Table.{words, leaf_pattern}
@@ -13,7 +12,4 @@ abbrev pub Filled : Net → Leaves → ℕ → List ℕ → List ℕ → NextLea
 Filled net w root lent list next n = Sweep words (leaf_own w leaf_pattern) net w root lent list next n
 
 abbrev pub invariant-loop-n : goal.invariant-loop-n
-invariant-loop-n l = Filled (net_of l.inputs l.gates) l.leaves l.root.0 l.initial.tables l.tables l.next l.n
-
-abbrev pub decreases-loop-n : goal.decreases-loop-n
-decreases-loop-n l = l.root.0 - l.n
+invariant-loop-n l = Filled l.graph.net l.leaves l.n-end l.initial.tables l.tables l.next l.n

@@ -7,12 +7,12 @@ use Rattle.window.specs.Table.{words}
 use Rattle.cutter.proofs.Sweeping.{table_leaf, table_input, table_gate}
 use Rattle.cutter.proofs.tables.variable_table.Goals as goal
 
-pub returns-then-v-next : goal.returns-then-v-next
-returns-then-v-next c = c.of_leaf.ensures ∙ sym (table_leaf c.requires.0 (omega arith) _)
+pub returns-then-is : goal.returns-then-is
+returns-then-is c = c.of_leaf.ensures ∙ sym (table_leaf c.requires.0 (sym c.is.ensures ∙ c.if-is.true) _)
 
 pub returns-then-at-inputs : goal.returns-then-at-inputs
 returns-then-at-inputs c =
-    c.zero.ensures ∙ sym (table_input c.requires.0 (omega arith) (omega arith) _)
+    c.zero.ensures ∙ sym (table_input c.requires.0 (sym c.is.ensures ∙ c.if-is.false) (omega arith) _)
 
 pub returns : goal.returns
 returns c =
@@ -20,6 +20,6 @@ returns c =
     let literal = lit_value words tables in
     c.and.ensures
     ∙ ap₂ words.conj
-    (c.literal_table-first.ensures ∙ ap literal c.fanins_of-gate.ensures.first_value)
-    (c.literal_table-second.ensures ∙ ap literal c.fanins_of-gate.ensures.second_value)
-    ∙ sym (table_gate c.requires.0 (omega arith) (omega arith) tables)
+    (c.literal_table.ensures ∙ ap literal c.fanins_of-gate.ensures.first_value)
+    (c.literal_table-2.ensures ∙ ap literal c.fanins_of-gate.ensures.second_value)
+    ∙ sym (table_gate c.requires.0 (sym c.is.ensures ∙ c.if-is.false) (omega arith) tables)
