@@ -11,8 +11,8 @@ ghost use Rattle.graph.specs.Sweep.{bools, lit_value};
 ghost use Rattle.graph.specs.Evaluate.{is_assignment, evaluate_refusals, evaluate_effect};
 
 use checker::{all_up_to, well_formed};
-use graph::{LentGraph, Lit, MOST_VARIABLES, Refusal};
-use sweep::{literal_value, sweep};
+use graph::{LentGraph, Lit, MOST_VARIABLES, Refusal, literal_value};
+use sweep::{Bools, sweep};
 
 // There is one value an input, each 0 or 1.
 #[tactic(auto, unfolding(graph::specs::Evaluate::is_assignment))]
@@ -46,7 +46,7 @@ fn put_values(literals: &[u32], known: &[bool], values: &mut [u32])
         ≡ written (map (λ b. cond b 1 0) (map (lit_value bools known.now) literals.now)) values.old }
 {
     for (k, literal) in literals.iter().enumerate() {
-        values[k] = literal_value(known, Lit(*literal)) as u32;
+        values[k] = literal_value::<Bools>(known, Lit(*literal)) as u32;
     }
 }
 

@@ -7,26 +7,32 @@ ghost use Rattle.graph.specs.Sweep.{bools, lit_value, by_gate};
 ghost use Rattle.graph.specs.Evaluate.{assignment_of, values_under};
 ghost use Rattle.evaluator.specs.Values.{input_values};
 
-use graph::{Lit, Net, Var};
+use graph::{Algebra, Net, Var, gate_value};
 
-// The value of a literal, where `known` has the values of the variables from 0 on.
-#[tactic(auto, unfolding(graph::specs::Sweep::lit_value, graph::specs::Sweep::bools))]
-pub fn literal_value(known: &[bool], l: Lit) -> bool
-    requires { var_of l.0 < length known.now }
-    ensures { result ≡ lit_value bools known.now l.0 }
-{
-    let value = known[l.var().at()];
-    if l.is_complement() { !value } else { value }
-}
+// Evaluating is a sweep over the truth values.
+pub struct Bools;
 
-// The value of gate v, where `known` has the values below it.
-#[tactic(auto, using(graph::proofs::Sweep::by_gate_gate), unfolding(graph::specs::Sweep::bools))]
-fn gate_value(net: &Net, known: &[bool], v: Var) -> bool
-    requires { IsGate net.now v.0 × (v.0 ≤ length known.now) }
-    ensures { result ≡ by_gate bools net.now v.0 known.now }
-{
-    let gate = net.fanins_of(v);
-    literal_value(known, gate.first) & literal_value(known, gate.second)
+impl Algebra for Bools {
+    ghost use Rattle.graph.specs.Sweep.{bools};
+
+    type Value = bool;
+
+    ghost ops = { bools };
+
+    #[tactic(auto, unfolding(graph::specs::Sweep::bools))]
+    fn no() -> bool {
+        false
+    }
+
+    #[tactic(auto, unfolding(graph::specs::Sweep::bools))]
+    fn and(a: bool, b: bool) -> bool {
+        a & b
+    }
+
+    #[tactic(auto, unfolding(graph::specs::Sweep::bools))]
+    fn complement(a: bool) -> bool {
+        !a
+    }
 }
 
 // The values of variable 0 and of the inputs stand at the front of `known`.
@@ -48,6 +54,6 @@ pub fn sweep(net: &Net, assignment: &[u32], known: &mut [bool])
     put_inputs(assignment, known);
     for n in net.inputs()..net.last() {
         let v = Var(n as u32 + 1);
-        known[v.at()] = gate_value(net, known, v);
+        known[v.at()] = gate_value::<Bools>(net, known, v);
     }
 }
