@@ -59,6 +59,7 @@ pub fn list_covered(covers: &[bool], root: Var, list: &mut [u32]) -> usize
     ensures value { result ≡ length (covered_in covers.now root.0) }
     ensures list_after { list.new ≡ written (covered_in covers.now root.0) list.old }
 {
+    // An index by hand: only a covered variable takes a place.
     let mut count = 0;
     for n in 0..root.0 {
         if covers[Var(n).at()] {

@@ -4,7 +4,7 @@
 ghost use Rattle.std.specs.Prelude.{◌≡◌, false, ◌<◌, ◌≤◌, length, get_or};
 ghost use Rattle.graph.specs.Lists.{every};
 ghost use Rattle.graph.specs.Literal.{var_of};
-ghost use Rattle.graph.specs.Graph.{net_of, graph_of, last, WellFormedNet};
+ghost use Rattle.graph.specs.Graph.{last, WellFormedNet};
 ghost use Rattle.graph.specs.Refuse.{first_refusal, verdict_is};
 ghost use Rattle.window.specs.Leaves.{WellSet};
 ghost use Rattle.window.specs.Table.{words, table, same_table};
@@ -14,83 +14,68 @@ ghost use Rattle.replacement.specs.Calls.{proposal_refusals};
 use cutter::cover::cover;
 use cutter::tables::{fill_tables, literal_table, table_at};
 use cutter::verdict::window_verdict;
-use graph::{Lit, MOST_VARIABLES, Refusal, Var, Verdict};
+use graph::{LentGraph, Lit, MOST_VARIABLES, Refusal, Var};
 use replacement::Proposal;
 use window::{Leaves, Table};
 
 // The literal's variable is below the root and covered; `covers` says which variables are.
+#[tactic(auto, unfolding(replacement::specs::Proposal::divides))]
 fn divides(covers: &[bool], root: Var, l: Lit) -> bool
     requires { root.0 < length covers.now }
     ensures { result ≡ divides (λ v. get_or covers.now v false) root.0 l.0 }
 {
-    if root.0 <= l.var().0 {
-        return false;
-    }
-    let at = l.var().at();
-    covers[at]
+    l.var() < root && covers[l.var().at()]
 }
 
 // The rule of kind 0: a literal whose variable divides the root, and the other fields are 0.
+#[tactic(auto, unfolding(replacement::specs::Proposal::literal_rules, graph::specs::Lists::every))]
 fn is_literal(covers: &[bool], root: Var, proposal: Proposal) -> bool
     requires { root.0 < length covers.now }
     ensures { result ≡ every (literal_rules (λ v. get_or covers.now v false) root.0 proposal) }
 {
-    if proposal.second.0 != 0 {
-        return false;
-    }
-    if proposal.turned != 0 {
-        return false;
-    }
-    divides(covers, root, proposal.first)
+    proposal.second.0 == 0 && proposal.turned == 0 && divides(covers, root, proposal.first)
 }
 
 // The rule of kind 1: two literals whose variables divide the root, neither of them 0, the second's below the first's; turned is 0 or 1.
+#[tactic(auto, unfolding(replacement::specs::Proposal::and_rules, graph::specs::Lists::every))]
 fn is_and(covers: &[bool], root: Var, proposal: Proposal) -> bool
     requires { root.0 < length covers.now }
     ensures { result ≡ every (and_rules (λ v. get_or covers.now v false) root.0 proposal) }
 {
     let first = proposal.first.var();
     let second = proposal.second.var();
-    if second.0 == 0 {
-        return false;
-    }
-    if first.0 <= second.0 {
-        return false;
-    }
-    if 1 < proposal.turned {
-        return false;
-    }
-    if !divides(covers, root, proposal.first) {
-        return false;
-    }
-    divides(covers, root, proposal.second)
+    Var(0) < second
+        && second < first
+        && proposal.turned <= 1
+        && divides(covers, root, proposal.first)
+        && divides(covers, root, proposal.second)
 }
 
 // The proposal keeps its kind's rule; `covers` says which variables are covered.
+#[tactic(auto, unfolding(replacement::specs::Proposal::keeps_rule))]
 fn keeps_rule(covers: &[bool], root: Var, proposal: Proposal) -> bool
     requires { root.0 < length covers.now }
     ensures { result ≡ keeps_rule (λ v. get_or covers.now v false) root.0 proposal }
 {
-    if proposal.kind == 0 {
-        return is_literal(covers, root, proposal);
+    match proposal.kind {
+        0 => is_literal(covers, root, proposal),
+        1 => is_and(covers, root, proposal),
+        _ => false,
     }
-    if proposal.kind == 1 {
-        return is_and(covers, root, proposal);
-    }
-    false
 }
 
 // The proposal keeps its kind's rule over these leaves.
-fn is_allowed(inputs: usize, gates: &[u32], leaves: Leaves, root: Var, proposal: Proposal) -> bool
-    requires { WellFormedNet (net_of inputs gates.now) × (root.0 ≤ last (net_of inputs gates.now)) × WellSet root.0 leaves }
-    ensures { result ≡ allowed (net_of inputs gates.now) root.0 leaves proposal }
+fn is_allowed(graph: &LentGraph, leaves: Leaves, root: Var, proposal: Proposal) -> bool
+    requires { WellFormedNet graph.now.net × (root.0 ≤ last graph.now.net) × WellSet root.0 leaves }
+    ensures { result ≡ allowed graph.now.net root.0 leaves proposal }
 {
     let mut covers = [false; MOST_VARIABLES];
-    cover(inputs, gates, leaves, root, &mut covers);
+    cover(graph, leaves, root, &mut covers);
     keeps_rule(&covers, root, proposal)
 }
 
 // The proposal's table, where `tables` has those of its variables.
+#[tactic(auto, unfolding(replacement::specs::Proposal::proposed_value, graph::specs::Sweep::turned))]
 pub fn proposal_table(tables: &[u64], proposal: Proposal) -> Table
     requires { (var_of proposal.first.0 < length tables.now) × (var_of proposal.second.0 < length tables.now) }
     ensures { result.0 ≡ proposed_value words tables.now proposal }
@@ -101,45 +86,39 @@ pub fn proposal_table(tables: &[u64], proposal: Proposal) -> Table
     }
     let product = first.and(literal_table(tables, proposal.second));
     if proposal.turned % 2 == 1 {
-        return product.complement();
+        product.complement()
+    } else {
+        product
     }
-    product
 }
 
 // The proposal's table is the root's, in all 64 bits.
-fn is_equal(inputs: usize, gates: &[u32], leaves: Leaves, root: Var, proposal: Proposal) -> bool
-    requires well_formed_net { WellFormedNet (net_of inputs gates.now) × (root.0 ≤ last (net_of inputs gates.now)) × WellSet root.0 leaves }
+#[tactic(auto, using(crate::proofs::Rules::table_by, cutter::proofs::Sweeping::table_in))]
+fn is_equal(graph: &LentGraph, leaves: Leaves, root: Var, proposal: Proposal) -> bool
+    requires well_formed_net { WellFormedNet graph.now.net × (root.0 ≤ last graph.now.net) × WellSet root.0 leaves }
     requires first_bound { (var_of proposal.first.0 < root.0) × (var_of proposal.second.0 < root.0) }
-    ensures { result ≡ same_table (proposed_table (net_of inputs gates.now) root.0 leaves proposal)
-        (table (net_of inputs gates.now) leaves root.0) }
+    ensures { result ≡ same_table (proposed_table graph.now.net root.0 leaves proposal) (table graph.now.net leaves root.0) }
 {
     let mut tables = [0u64; MOST_VARIABLES];
-    fill_tables(inputs, gates, leaves, root, &mut tables);
+    fill_tables(graph, leaves, root, &mut tables);
     proposal_table(&tables, proposal).same(table_at(&tables, root))
 }
 
 // Whether the proposal may stand for the root, or why not.
 pub fn proposal_verdict(
-    inputs: usize,
-    gates: &[u32],
-    outputs: &[u32],
+    graph: &LentGraph,
     root: Var,
     leaves: Leaves,
     proposal: Proposal,
-) -> Verdict
-    ensures { verdict_is result
-        ≡ first_refusal (proposal_refusals (graph_of inputs gates.now outputs.now) root.0 leaves proposal) }
+) -> Result<(), Refusal>
+    ensures { verdict_is result ≡ first_refusal (proposal_refusals graph.now root.0 leaves proposal) }
 {
-    match window_verdict(inputs, gates, outputs, root, leaves) {
-        Verdict::Refused(refusal) => Verdict::Refused(refusal),
-        Verdict::Fine => {
-            if !is_allowed(inputs, gates, leaves, root, proposal) {
-                return Verdict::Refused(Refusal::BadCandidate);
-            }
-            if !is_equal(inputs, gates, leaves, root, proposal) {
-                return Verdict::Refused(Refusal::NotEqual);
-            }
-            Verdict::Fine
-        }
+    window_verdict(graph, root, leaves)?;
+    if !is_allowed(graph, leaves, root, proposal) {
+        return Err(Refusal::BadCandidate);
     }
+    if !is_equal(graph, leaves, root, proposal) {
+        return Err(Refusal::NotEqual);
+    }
+    Ok(())
 }
