@@ -35,13 +35,23 @@ fn evaluates(
 }
 
 fn evaluates_e1(rt: &impl Print, name: &[u8], assignment: &[u32]) -> io::Result<()> {
-    evaluates(rt, name, &LentGraph::new(2, &[4, 2, 6, 2], &[8]), assignment)
+    evaluates(
+        rt,
+        name,
+        &LentGraph::new(2, &[4, 2, 6, 2], &[8]),
+        assignment,
+    )
 }
 
 fn assignments(rt: &impl Print) -> io::Result<()> {
     evaluates_e1(rt, b"E1 at 1 1", &[1, 1])?;
     evaluates_e1(rt, b"E1 at 1 0", &[1, 0])?;
-    evaluates(rt, b"gate 3 2 at 1", &LentGraph::new(1, &[3, 2], &[4, 5]), &[1])
+    evaluates(
+        rt,
+        b"gate 3 2 at 1",
+        &LentGraph::new(1, &[3, 2], &[4, 5]),
+        &[1],
+    )
 }
 
 fn bad_assignments(rt: &impl Print) -> io::Result<()> {
@@ -62,14 +72,34 @@ fn rooms(rt: &impl Print) -> io::Result<()> {
 
 fn input_limit(rt: &impl Print) -> io::Result<()> {
     let ones = [1u32; 65];
-    evaluates(rt, b"64 inputs", &LentGraph::new(64, &[], &[128, 129]), &ones[..64])?;
-    evaluates(rt, b"65 inputs", &LentGraph::new(65, &[], &[128, 129]), &ones)
+    evaluates(
+        rt,
+        b"64 inputs",
+        &LentGraph::new(64, &[], &[128, 129]),
+        &ones[..64],
+    )?;
+    evaluates(
+        rt,
+        b"65 inputs",
+        &LentGraph::new(65, &[], &[128, 129]),
+        &ones,
+    )
 }
 
 fn gate_limit(rt: &impl Print) -> io::Result<()> {
     let gates = [0u32; 2050];
-    evaluates(rt, b"1,024 gates", &LentGraph::new(0, &gates[..2048], &[2048, 2049]), &[])?;
-    evaluates(rt, b"1,025 gates", &LentGraph::new(0, &gates, &[2048, 2049]), &[])
+    evaluates(
+        rt,
+        b"1,024 gates",
+        &LentGraph::new(0, &gates[..2048], &[2048, 2049]),
+        &[],
+    )?;
+    evaluates(
+        rt,
+        b"1,025 gates",
+        &LentGraph::new(0, &gates, &[2048, 2049]),
+        &[],
+    )
 }
 
 pub fn run(rt: &impl Print) -> io::Result<()> {

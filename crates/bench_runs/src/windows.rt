@@ -15,12 +15,7 @@ fn say_leaves(rt: &impl Print, leaves: Leaves) -> io::Result<()> {
     Ok(())
 }
 
-fn picks(
-    rt: &impl Print,
-    name: &[u8],
-    graph: &LentGraph,
-    root: u32,
-) -> io::Result<()> {
+fn picks(rt: &impl Print, name: &[u8], graph: &LentGraph, root: u32) -> io::Result<()> {
     say(rt, name)?;
     say(rt, b":")?;
     let picked = cutter::pick(graph, Var(root));
@@ -49,7 +44,12 @@ fn bad_roots(rt: &impl Print) -> io::Result<()> {
 }
 
 fn unused_roots(rt: &impl Print) -> io::Result<()> {
-    picks(rt, b"a gate not in use", &LentGraph::new(2, &[4, 2, 4, 3], &[6]), 4)?;
+    picks(
+        rt,
+        b"a gate not in use",
+        &LentGraph::new(2, &[4, 2, 4, 3], &[6]),
+        4,
+    )?;
     picks(rt, b"no output", &LentGraph::new(2, &[4, 2], &[]), 3)?;
     picks(rt, b"7 and 9", &LentGraph::new(1, &[2, 3], &[4]), 1)
 }
@@ -61,8 +61,18 @@ fn input_limit(rt: &impl Print) -> io::Result<()> {
 
 fn gate_limit(rt: &impl Print) -> io::Result<()> {
     let gates = [0u32; 2050];
-    picks(rt, b"1,024 gates", &LentGraph::new(0, &gates[..2048], &[2048]), 1024)?;
-    picks(rt, b"1,025 gates", &LentGraph::new(0, &gates, &[2048]), 1024)
+    picks(
+        rt,
+        b"1,024 gates",
+        &LentGraph::new(0, &gates[..2048], &[2048]),
+        1024,
+    )?;
+    picks(
+        rt,
+        b"1,025 gates",
+        &LentGraph::new(0, &gates, &[2048]),
+        1024,
+    )
 }
 
 // Reads until the bytes are full or the input ends, and says how many there are.
@@ -124,7 +134,11 @@ fn tables_e1(
     a: u32,
     b: u32,
 ) -> io::Result<()> {
-    tables(rt, name, &LentGraph::new(2, &[4, 2, 6, 2], &[8]), root,
+    tables(
+        rt,
+        name,
+        &LentGraph::new(2, &[4, 2, 6, 2], &[8]),
+        root,
         two_places(count, a, b),
     )
 }
@@ -147,33 +161,63 @@ fn leaves_out_of_place(rt: &impl Print) -> io::Result<()> {
 }
 
 fn roots_of_tables(rt: &impl Print) -> io::Result<()> {
-    tables(rt, b"gate 3 2 over 1", &LentGraph::new(1, &[3, 2], &[4]), 2,
+    tables(
+        rt,
+        b"gate 3 2 over 1",
+        &LentGraph::new(1, &[3, 2], &[4]),
+        2,
         two_places(1, 1, 0),
     )?;
-    tables(rt, b"not in use", &LentGraph::new(2, &[4, 2, 4, 3], &[6]), 4,
+    tables(
+        rt,
+        b"not in use",
+        &LentGraph::new(2, &[4, 2, 4, 3], &[6]),
+        4,
         two_places(2, 1, 2),
     )?;
     tables_e1(rt, b"root 2 over none", 2, 0, 0, 0)
 }
 
 fn table_limits(rt: &impl Print) -> io::Result<()> {
-    tables(rt, b"64 inputs over 2", &LentGraph::new(64, &[128, 2], &[130]), 65,
+    tables(
+        rt,
+        b"64 inputs over 2",
+        &LentGraph::new(64, &[128, 2], &[130]),
+        65,
         two_places(2, 1, 64),
     )?;
-    tables(rt, b"65 inputs over 2", &LentGraph::new(65, &[130, 2], &[132]), 66,
+    tables(
+        rt,
+        b"65 inputs over 2",
+        &LentGraph::new(65, &[130, 2], &[132]),
+        66,
         two_places(2, 1, 65),
     )?;
     let gates = [0u32; 2050];
-    tables(rt, b"1,024 gates over none", &LentGraph::new(0, &gates[..2048], &[2048]), 1024,
+    tables(
+        rt,
+        b"1,024 gates over none",
+        &LentGraph::new(0, &gates[..2048], &[2048]),
+        1024,
         two_places(0, 0, 0),
     )?;
-    tables(rt, b"1,025 gates over none", &LentGraph::new(0, &gates, &[2048]), 1024,
+    tables(
+        rt,
+        b"1,025 gates over none",
+        &LentGraph::new(0, &gates, &[2048]),
+        1024,
         two_places(0, 0, 0),
     )
 }
 
 fn table_pairs(rt: &impl Print) -> io::Result<()> {
-    tables(rt, b"7 and 9", &LentGraph::new(1, &[2, 3], &[4]), 1, two_places(1, 1, 0))?;
+    tables(
+        rt,
+        b"7 and 9",
+        &LentGraph::new(1, &[2, 3], &[4]),
+        1,
+        two_places(1, 1, 0),
+    )?;
     tables_e1(rt, b"9 and 10", 2, 2, 2, 1)?;
     tables_e1(rt, b"10 and 11", 3, 1, 1, 2)
 }
@@ -183,7 +227,11 @@ fn and_of_six(rt: &impl Print, name: &[u8], count: usize) -> io::Result<()> {
         count,
         places: [Var(1), Var(2), Var(3), Var(4), Var(5), Var(6)],
     };
-    tables(rt, name, &LentGraph::new(6, &[4, 2, 14, 6, 16, 8, 18, 10, 20, 12], &[22]), 11,
+    tables(
+        rt,
+        name,
+        &LentGraph::new(6, &[4, 2, 14, 6, 16, 8, 18, 10, 20, 12], &[22]),
+        11,
         all,
     )
 }

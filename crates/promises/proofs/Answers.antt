@@ -4,6 +4,7 @@ use mathlib.Core.Path.{◌≡◌}
 use mathlib.Core.List.{List, [], ◌∷◌}
 use Prim.Native.Nat.{ℕ}
 use lib.ListN.{length}
+use Rattle.std.specs.Prelude.{Err}
 use Rattle.graph.specs.declared.refusal.Refusal.{Refusal}
 use Rattle.graph.specs.declared.refusal.Refusal.TheVariants.{OrderLost, NoRoom}
 use Rattle.graph.specs.Refuse.{number_of, Answers}
@@ -15,7 +16,6 @@ use Rattle.text.specs.Refusals.{read_rank, ReadGiven, write_rank, WriteGiven}
 use Rattle.text.specs.Calls.{read_effect, read_outcome, write_effect, written_outcome}
 use Rattle.text.proofs.Refusals.{read_answers, read_writes_nothing, write_answers, write_writes_nothing}
 use Rattle.window.specs.declared.leaf_set.Leaves.{Leaves}
-use Rattle.window.specs.Leaves.{leaves_of}
 use Rattle.window.specs.Calls.{root_rank, RootGiven, pick_answer, pick_outcome, window_rank, WindowGiven, table_answer, table_outcome}
 use Rattle.window.proofs.Calls.{pick_answers, pick_refused_empty, table_answers, table_refused_zero}
 use Rattle.replacement.specs.declared.types.Proposal.{Proposal}

@@ -6,6 +6,7 @@ use mathlib.Core.List.{List}
 use Prim.Native.Nat.{ℕ, ◌*◌, ◌≤◌}
 use native.Mathlib.Omega.{arith}
 use lib.ListN.{length, take, length-take}
+use Rattle.std.specs.Prelude.{Result, Ok, Err}
 use Rattle.graph.specs.declared.refusal.Refusal.{Refusal}
 use Rattle.graph.specs.Graph.{Graph, graph_of, size, sinks, WellFormed}
 use Rattle.graph.specs.Evaluate.{Assignment, evaluate_effect}

@@ -5,6 +5,7 @@ use mathlib.Core.List.{List, [], ◌∷◌}
 use native.Mathlib.Omega.{arith}
 use borrow.Author.Tests.{leb-true}
 use lib.ListN.{length}
+use Rattle.std.specs.Prelude.{ℕ, Ok, Err}
 use Rattle.graph.specs.Lists.{here}
 use Rattle.graph.specs.Lent.{no_room_for}
 use Rattle.graph.specs.Graph.{first, second, well_formed, WellFormed}

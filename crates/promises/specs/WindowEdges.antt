@@ -1,6 +1,7 @@
 -- Examples at the limits, of picking leaves and asking for a table.
 -- Assumes nothing.
 use Rattle.std.specs.Prelude.{ℕ, List, [], ◌∷◌, ◌++◌}
+use Rattle.std.specs.Result.{result_unwrap_or}
 use Rattle.graph.specs.Graph.{Graph, graph_of}
 use Rattle.window.specs.declared.leaf_set.Leaves.{Leaves}
 use Rattle.window.specs.Leaves.{numbers, variables, leaves_of}
@@ -42,9 +43,9 @@ pick_edges =
     ∷ pick_call eight_inputs 15 gives (0 ∷ 6 ∷ 5 ∷ 6 ∷ 7 ∷ 8 ∷ 9 ∷ 10 ∷ [])
     -- the lower number: half a gate and no root
     ∷ pick_call half_gate 9 gives (7 ∷ [])
-    -- a refused pick holds the empty leaf set
-    ∷ count_and_places (pick_answer e1 2).leaves gives (0 ∷ 0 ∷ 0 ∷ 0 ∷ 0 ∷ 0 ∷ 0 ∷ [])
-    ∷ count_and_places (pick_answer half_gate 2).leaves gives (0 ∷ 0 ∷ 0 ∷ 0 ∷ 0 ∷ 0 ∷ 0 ∷ [])
+    -- a refused pick has no leaves: the empty leaf set stands for them
+    ∷ count_and_places (result_unwrap_or (pick_answer e1 2) (leaves_of [])) gives (0 ∷ 0 ∷ 0 ∷ 0 ∷ 0 ∷ 0 ∷ 0 ∷ [])
+    ∷ count_and_places (result_unwrap_or (pick_answer half_gate 2) (leaves_of [])) gives (0 ∷ 0 ∷ 0 ∷ 0 ∷ 0 ∷ 0 ∷ 0 ∷ [])
     ∷ []
 
 unfoldable pub table_edges : List Example
@@ -77,6 +78,6 @@ table_edges =
     ∷ table_call half_gate 9 (leaves_of []) gives (7 ∷ [])
     ∷ table_call e1 2 (leaves_of (2 ∷ 1 ∷ [])) gives (9 ∷ [])
     ∷ table_call e1 4 (leaves_of (0 ∷ 1 ∷ [])) gives (10 ∷ [])
-    -- a refused table is 0, though the leaves would cut the root
-    ∷ ((table_answer e1 4 (leaves_of (1 ∷ 2 ∷ 2 ∷ []))).table.0 ∷ []) gives (0 ∷ [])
+    -- a refused table has no bits, though the leaves would cut the root: 0 stands for them
+    ∷ ((result_unwrap_or (table_answer e1 4 (leaves_of (1 ∷ 2 ∷ 2 ∷ []))) (record { 0 = 0 })).0 ∷ []) gives (0 ∷ [])
     ∷ []

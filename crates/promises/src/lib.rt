@@ -93,11 +93,7 @@ pub fn pick_then_table(graph: &LentGraph, root: Var) -> LeavesAndTable
 }
 
 // Asks for a root's table over lent leaves.
-pub fn table_over(
-    graph: &LentGraph,
-    root: Var,
-    leaves: Leaves,
-) -> Result<Table, Refusal>
+pub fn table_over(graph: &LentGraph, root: Var, leaves: Leaves) -> Result<Table, Refusal>
     ensures value { result ≡ table_answer graph.now root.0 leaves }
     ensures tabled { Tabled graph.now root.0 leaves result }
 {
@@ -135,7 +131,5 @@ pub fn apply_proposal(
     ensures accepted_keeps { AcceptedKeeps graph.now root.0 leaves proposal
         (buffers_of words.old results.old) result (buffers_of words.new results.new) }
 {
-    replacer::apply(
-        inputs, gates, outputs, root, leaves, proposal, words, results,
-    )
+    replacer::apply(graph, root, leaves, proposal, words, results)
 }

@@ -7,7 +7,7 @@ use mathlib.Core.Logic.{⊎_elim}
 use mathlib.Core.Option.{Option, none, some, or_else}
 use Prim.Native.Nat.{ℕ}
 use native.Mathlib.Omega.{arith}
-use Rattle.std.specs.Prelude.{Result, Ok, Err}
+use Rattle.std.specs.Prelude.{Err}
 use Rattle.graph.specs.declared.refusal.Refusal.{Refusal}
 use Rattle.graph.specs.declared.refusal.Refusal.TheVariants.{NoGain, OrderLost, NoRoom}
 use Rattle.graph.specs.Lent.{Buffers, no_room_for, ◌leaving◌}
@@ -19,7 +19,6 @@ use Rattle.graph.proofs.Lists.{true_or_false}
 use Rattle.graph.proofs.Refuse.{first_join}
 use Rattle.window.specs.declared.leaf_set.Leaves.{Leaves}
 use Rattle.replacement.specs.declared.types.Proposal.{Proposal}
-use Rattle.replacement.specs.declared.types.Applied.{Applied}
 use Rattle.replacement.specs.Rewire.{Wires, finished, gain, is_at_least_one, positive}
 use Rattle.replacement.specs.Calls.{proposal_refusals, apply_refusals, left_in, apply_effect}
 use Rattle.replacement.proofs.Gain.{gain_iff, positive_iff}

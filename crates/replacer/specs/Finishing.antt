@@ -11,7 +11,7 @@ use Rattle.graph.specs.Use.{InUse, marks}
 use Rattle.graph.specs.Drop.{new_number}
 use Rattle.replacement.specs.declared.types.Proposal.{Proposal}
 use Rattle.replacement.specs.declared.types.Applied.{Applied}
-use Rattle.replacement.specs.Rewire.{Wires, rewired, finished, gain, is_at_least_one}
+use Rattle.replacement.specs.Rewire.{rewired, finished, gain, is_at_least_one}
 use Rattle.replacement.specs.Calls.{left_in}
 use Rattle.replacement.specs.Vanish.{MarksPast}
 

@@ -131,11 +131,7 @@ fn writes_into(
     say(rt, b"\n")
 }
 
-fn writes(
-    rt: &impl Print,
-    name: &[u8],
-    graph: &LentGraph,
-) -> io::Result<()> {
+fn writes(rt: &impl Print, name: &[u8], graph: &LentGraph) -> io::Result<()> {
     let mut bytes = [b'.'; 40];
     writes_into(rt, name, graph, &mut bytes)
 }

@@ -11,12 +11,12 @@ pub returns-in-Err : goal.returns-in-Err
 unfolding applied_outcome written
 returns-in-Err c =
     let q = c.in-Err.is in
-    let applied = rw c.leaves_at-leaves.ensures at c.apply.ensures in
+    let applied = rw (c.new-graph.ensures, c.leaves_at-leaves.ensures) at c.apply.ensures in
     answer_told applied_outcome _ _ _ applied _ (c.number.ensures ∙ rw q) _ _ (rw q)
 
 pub returns-in-Ok : goal.returns-in-Ok
 unfolding applied_outcome written
 returns-in-Ok c =
     let q = c.in-Ok.is in
-    let applied = rw c.leaves_at-leaves.ensures at c.apply.ensures in
+    let applied = rw (c.new-graph.ensures, c.leaves_at-leaves.ensures) at c.apply.ensures in
     answer_told applied_outcome _ _ _ applied _ (rw q) _ _ (rw q)

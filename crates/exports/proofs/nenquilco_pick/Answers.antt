@@ -34,12 +34,12 @@ pub returns-in-Err : goal.returns-in-Err
 unfolding pick_outcome written
 returns-in-Err c =
     let q = c.in-Err.is in
-    value_told pick_outcome _ _ c.pick-picked.ensures _ (c.number.ensures ∙ rw q) _ _ (rw q)
+    value_told pick_outcome _ _ (rw c.new-graph.ensures at c.pick.ensures) _ (c.number.ensures ∙ rw q) _ _ (rw q)
 
 pub returns-in-Ok : goal.returns-in-Ok
 unfolding pick_outcome written
 returns-in-Ok c =
     let q = c.in-Ok.is in
-    let leaves = c.pick-picked.result.leaves in
+    let leaves = c.in-Ok.leaves in
     let six : length leaves.places ≡ 6 = search (rules, length_held) in
-    value_told pick_outcome _ _ c.pick-picked.ensures _ (rw q) _ _ (rw (q, six_places leaves.places six))
+    value_told pick_outcome _ _ (rw c.new-graph.ensures at c.pick.ensures) _ (rw q) _ _ (rw (q, six_places leaves.places six))

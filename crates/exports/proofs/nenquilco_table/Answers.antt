@@ -11,12 +11,12 @@ pub returns-in-Err : goal.returns-in-Err
 unfolding table_outcome written
 returns-in-Err c =
     let q = c.in-Err.is in
-    let answered = rw c.leaves_at-leaves.ensures at c.table-asked.ensures in
+    let answered = rw (c.new-graph.ensures, c.leaves_at-leaves.ensures) at c.table.ensures in
     value_told table_outcome _ _ answered _ (c.number.ensures ∙ rw q) _ _ (rw q)
 
 pub returns-in-Ok : goal.returns-in-Ok
 unfolding table_outcome written
 returns-in-Ok c =
     let q = c.in-Ok.is in
-    let answered = rw c.leaves_at-leaves.ensures at c.table-asked.ensures in
+    let answered = rw (c.new-graph.ensures, c.leaves_at-leaves.ensures) at c.table.ensures in
     value_told table_outcome _ _ answered _ (rw q) _ _ (rw q)

@@ -1,10 +1,9 @@
 -- `replacer::apply` meets its contract: the verdict on the proposal comes first, then its gain and the room.
 -- Assumes nothing.
-use mathlib.Core.Path.{◌≡◌, sym, ◌∙◌}
-use mathlib.Core.Option.{none}
+use mathlib.Core.Path.{sym, ◌∙◌}
+use Rattle.std.proofs.lemmas.Result.{err_from_is_err_and}
 use Rattle.graph.specs.Lent.{buffers_of}
-use Rattle.graph.specs.Refuse.{first_refusal, verdict_is}
-use Rattle.replacement.specs.Calls.{proposal_refusals}
+use Rattle.graph.specs.Refuse.{verdict_is}
 use Rattle.replacer.proofs.Replacing.{apply_refused, replacing_known, apply_replaces}
 use Rattle.replacer.proofs.apply.Goals as goal
 
@@ -16,7 +15,11 @@ replace-requires c =
 
 pub returns-in_err-proposal_verdict : goal.returns-in_err-proposal_verdict
 unfolding verdict_is
-returns-in_err-proposal_verdict c = ?
+returns-in_err-proposal_verdict c =
+    let a = c.args in
+    let p = err_from_is_err_and c.from_residual.result c.from_residual.ensures.1 in
+    rw (p.1, p.2)
+    (apply_refused a.graph.now a.root.0 a.leaves a.proposal (buffers_of a.words.now a.results.now) _ (sym c.in_err-proposal_verdict.ensures))
 
 pub returns : goal.returns
 unfolding verdict_is

@@ -5,7 +5,6 @@ use mathlib.Core.Bool.{false}
 use Prim.Native.Nat.{ℕ}
 use native.Mathlib.Omega.{arith}
 use lib.ListN.{replicate}
-use Rattle.graph.specs.Graph.{graph_of}
 use Rattle.graph.specs.Lent.{buffers_of}
 use Rattle.graph.proofs.Graph.{net_well_formed}
 use Rattle.checker.specs.Marks.{marks_in}

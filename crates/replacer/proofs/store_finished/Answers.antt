@@ -7,7 +7,7 @@ use Prim.Native.Nat.{ℕ, ◌<◌}
 use native.Mathlib.Omega.{arith}
 use lib.ListN.{length, replicate, length-replicate}
 use Rattle.graph.specs.Lent.{written, buffers_of, RoomFor}
-use Rattle.graph.specs.Graph.{graph_of, size, last}
+use Rattle.graph.specs.Graph.{size, last}
 use Rattle.graph.proofs.Graph.{net_well_formed, sinks_below}
 use Rattle.graph.proofs.Lent.{room_iff}
 use Rattle.graph.proofs.Renumber.{count_most}

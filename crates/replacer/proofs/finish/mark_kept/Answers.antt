@@ -6,7 +6,6 @@ use mathlib.Core.List.{List}
 use Prim.Native.Nat.{ℕ, ◌<◌}
 use native.Mathlib.Omega.{arith}
 use lib.ListN.{length, set, take}
-use Rattle.graph.specs.Graph.{net_of}
 use Rattle.checker.specs.Marks.{marks_in}
 use Rattle.weigher.specs.Held.{set_each}
 use Rattle.weigher.proofs.Steps.{set_each_length}

@@ -1,9 +1,8 @@
 -- What the loop keeps, and how far it has to go.
 use mathlib.Core.Bool.{Bool}
 use mathlib.Core.List.{List}
-use Prim.Native.Nat.{ℕ, suc, ◌+◌, ◌-◌, ◌/◌}
-use lib.ListN.{length}
-use Rattle.graph.specs.Graph.{Net, net_of, free, size}
+use Prim.Native.Nat.{ℕ, suc, ◌+◌}
+use Rattle.graph.specs.Graph.{Net, free, size}
 use Rattle.graph.proofs.Lent.{Pieces}
 use Rattle.checker.specs.Marks.{marks_in}
 use Rattle.replacement.specs.Rewire.{rewired_net}

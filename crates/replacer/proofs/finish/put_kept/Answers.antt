@@ -8,7 +8,7 @@ use Prim.Native.Nat.{ℕ, ◌+◌, ◌≤◌}
 use native.Mathlib.Omega.{arith}
 use lib.ListN.{length, get_or}
 use Rattle.graph.specs.Lent.{laid}
-use Rattle.graph.specs.Graph.{Net, net_of, first, second}
+use Rattle.graph.specs.Graph.{Net, first, second}
 use Rattle.graph.proofs.Lent.{put_bytes}
 use Rattle.checker.specs.Marks.{marks_in}
 use Rattle.replacement.specs.Rewire.{rewired_net}

@@ -5,8 +5,7 @@ use mathlib.Core.Path.{refl, sym, ap, ap₂, ◌∙◌}
 use mathlib.Core.List.{List, map}
 use Prim.Native.Nat.{ℕ, ◌≤◌}
 use native.Mathlib.Omega.{arith}
-use borrow.Author.Rules.{rules}
-use lib.ListN.{length, set, length-set, length-map}
+use lib.ListN.{length, set, length-map}
 use lib.Seq.{take_all}
 use Rattle.graph.specs.Lent.{written}
 use Rattle.graph.proofs.Members.{map_at}

@@ -1,6 +1,6 @@
 -- `replacer::finish::renumber` meets its contract: after n turns the numbers of the variables 0 to n are written, and the last is at hand.
 -- Assumes nothing.
-use mathlib.Core.Path.{◌≡◌, refl, sym, ap, ap₂, ◌∙◌}
+use mathlib.Core.Path.{◌≡◌, sym, ap, ap₂, ◌∙◌}
 use mathlib.Core.Bool.{Bool}
 use mathlib.Core.List.{List, [], ◌∷◌}
 use Prim.Native.Nat.{ℕ, ◌+◌, ◌<◌}
@@ -9,7 +9,7 @@ use mir.Val.{bool_byte}
 use lib.ListN.{length, set, length-set}
 use Rattle.graph.specs.Lists.{gather}
 use Rattle.graph.specs.Lent.{written}
-use Rattle.graph.specs.Graph.{Net, net_of, size, last}
+use Rattle.graph.specs.Graph.{Net, size, last}
 use Rattle.graph.specs.Use.{count_marks}
 use Rattle.graph.specs.Drop.{new_number}
 use Rattle.graph.proofs.Swept.{written_over}

@@ -1,9 +1,6 @@
 -- What the loop keeps, and how far it has to go.
 use mathlib.Core.Path.{◌≡◌}
-use Prim.Native.Nat.{◌-◌, ◌≤◌}
-use lib.ListN.{length}
 use Rattle.graph.specs.Lent.{written}
-use Rattle.graph.specs.Graph.{net_of}
 use Rattle.graph.specs.Drop.{new_number}
 use Rattle.checker.specs.Marks.{marks_in}
 use Rattle.replacer.proofs.Kept.{numbers_to}
