@@ -25,6 +25,11 @@ fn and_of(first: u32, second: u32, turned: u32) -> Proposal {
     any(1, first, second, turned)
 }
 
+// A graph over two inputs.
+fn over_two<'a>(gates: &'a [u32], outputs: &'a [u32]) -> LentGraph<'a> {
+    LentGraph::new(2, gates, outputs)
+}
+
 fn over(count: usize, a: u32, b: u32) -> Leaves {
     Leaves {
         count,
@@ -35,8 +40,7 @@ fn over(count: usize, a: u32, b: u32) -> Leaves {
 fn applies_into(
     rt: &impl Print,
     name: &[u8],
-    gates: &[u32],
-    outputs: &[u32],
+    graph: &LentGraph,
     root: u32,
     leaves: Leaves,
     proposal: Proposal,
@@ -45,13 +49,12 @@ fn applies_into(
 ) -> io::Result<()> {
     say(rt, name)?;
     say(rt, b":")?;
-    let graph = LentGraph::new(2, gates, outputs);
-    match replacer::apply(&graph, Var(root), leaves, proposal, words, results) {
+    match replacer::apply(graph, Var(root), leaves, proposal, words, results) {
         Err(refusal) => say_refusal(rt, refusal)?,
-        Ok(finished) => {
+        Ok(applied) => {
             say_number(rt, 0)?;
-            say_number(rt, finished.gates as u64)?;
-            say_number(rt, finished.outputs as u64)?;
+            say_number(rt, applied.gates as u64)?;
+            say_number(rt, applied.outputs as u64)?;
         }
     }
     say_words(rt, words)?;
@@ -59,12 +62,11 @@ fn applies_into(
     say(rt, b"\n")
 }
 
-// Over two inputs, with room for three gates and two outputs.
+// With room for three gates and two outputs.
 fn applies(
     rt: &impl Print,
     name: &[u8],
-    gates: &[u32],
-    outputs: &[u32],
+    graph: &LentGraph,
     root: u32,
     leaves: Leaves,
     proposal: Proposal,
@@ -74,8 +76,7 @@ fn applies(
     applies_into(
         rt,
         name,
-        gates,
-        outputs,
+        graph,
         root,
         leaves,
         proposal,
@@ -88,16 +89,15 @@ fn applies(
 fn applies_at(
     rt: &impl Print,
     name: &[u8],
-    gates: &[u32],
-    outputs: &[u32],
+    graph: &LentGraph,
     root: u32,
     proposal: Proposal,
 ) -> io::Result<()> {
-    applies(rt, name, gates, outputs, root, over(2, 1, 2), proposal)
+    applies(rt, name, graph, root, over(2, 1, 2), proposal)
 }
 
 fn applies_e1(rt: &impl Print, name: &[u8], proposal: Proposal) -> io::Result<()> {
-    applies_at(rt, name, &[4, 2, 6, 2], &[8], 4, proposal)
+    applies_at(rt, name, &over_two(&[4, 2, 6, 2], &[8]), 4, proposal)
 }
 
 // The window of E1 is another one.
@@ -108,30 +108,41 @@ fn applies_over(
     leaves: Leaves,
     proposal: Proposal,
 ) -> io::Result<()> {
-    applies(rt, name, &[4, 2, 6, 2], &[8], root, leaves, proposal)
+    applies(
+        rt,
+        name,
+        &over_two(&[4, 2, 6, 2], &[8]),
+        root,
+        leaves,
+        proposal,
+    )
 }
 
 fn good(rt: &impl Print) -> io::Result<()> {
     applies_e1(rt, b"a literal", literal(6))?;
     applies_e1(rt, b"an AND", and_of(4, 2, 0))?;
-    applies_at(rt, b"P11", &[5, 3, 7, 2], &[8], 4, literal(2))
+    applies_at(rt, b"P11", &over_two(&[5, 3, 7, 2], &[8]), 4, literal(2))
 }
 
 fn references(rt: &impl Print) -> io::Result<()> {
     applies_at(
         rt,
         b"a complemented reference",
-        &[4, 2, 6, 2],
-        &[9],
+        &over_two(&[4, 2, 6, 2], &[9]),
         4,
         literal(6),
     )?;
-    applies_at(rt, b"turned", &[5, 3, 7, 7], &[8], 4, and_of(5, 3, 1))?;
+    applies_at(
+        rt,
+        b"turned",
+        &over_two(&[5, 3, 7, 7], &[8]),
+        4,
+        and_of(5, 3, 1),
+    )?;
     applies_at(
         rt,
         b"larger first again",
-        &[4, 2, 6, 2, 8, 7],
-        &[10],
+        &over_two(&[4, 2, 6, 2, 8, 7], &[10]),
         4,
         literal(6),
     )
@@ -142,16 +153,14 @@ fn gains(rt: &impl Print) -> io::Result<()> {
     applies_at(
         rt,
         b"another output uses the cone",
-        &[4, 2, 6, 2],
-        &[8, 6],
+        &over_two(&[4, 2, 6, 2], &[8, 6]),
         4,
         and_of(4, 2, 0),
     )?;
     applies_at(
         rt,
         b"a gate comes back into use",
-        &[4, 2, 4, 2],
-        &[8],
+        &over_two(&[4, 2, 4, 2], &[8]),
         4,
         literal(6),
     )
@@ -183,7 +192,7 @@ fn windows(rt: &impl Print) -> io::Result<()> {
 }
 
 fn neighbours(rt: &impl Print) -> io::Result<()> {
-    applies_at(rt, b"7 and 9", &[2, 4], &[6], 2, literal(2))?;
+    applies_at(rt, b"7 and 9", &over_two(&[2, 4], &[6]), 2, literal(2))?;
     applies_over(rt, b"9 and 10", 2, over(2, 2, 1), literal(2))?;
     applies_over(rt, b"10 and 11", 3, over(1, 1, 2), literal(2))?;
     applies_over(rt, b"11 and 12", 3, over(1, 1, 0), literal(6))
@@ -201,12 +210,10 @@ fn applies_with_room(
     words: &mut [u32],
     results: &mut [u32],
 ) -> io::Result<()> {
-    let e1 = [4u32, 2, 6, 2];
     applies_into(
         rt,
         name,
-        &e1,
-        &[8],
+        &over_two(&[4, 2, 6, 2], &[8]),
         4,
         over(2, 1, 2),
         proposal,
