@@ -60,7 +60,7 @@ unfoldable pub verdict_is : {A : Type 0} → Result A Refusal → Option Refusal
 verdict_is (Ok x) = none
 verdict_is (Err r) = some r
 
--- an answer in document 01's terms: 0 and the values, or a refusal's number and what comes with it
+-- an answer in numbers: 0 and the values, or a refusal's number and what comes with it
 pub record Outcome : Type 0 where
   pub number : ℕ
   pub values : List ℕ

@@ -1,4 +1,4 @@
--- The list that is computed is the list that document 01 asks for, and there is no other.
+-- The list that is computed is the list that the rules ask for, and there is no other.
 -- Assumes nothing.
 use mathlib.Core.Path.{◌≡◌, refl, sym, ap, subst, ◌∙◌}
 use mathlib.Core.Bool.{true, false≢true}

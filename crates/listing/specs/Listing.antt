@@ -53,7 +53,7 @@ pub record Good (Cov : ℕ → Type 0) (g : Graph) (root : ℕ) (w : Leaves) (x 
   pub gain_is : gain g root (proposal_of x) ≡ pos x.gain
   pub at_least_one : 1 ≤ x.gain
 
--- by coverage itself: what document 01 calls good
+-- by coverage itself: what is called good
 abbrev pub GoodReplacement : Graph → ℕ → Leaves → Candidate → Type 0
 GoodReplacement g root w x = Good (Covered g.net w) g root w x
 

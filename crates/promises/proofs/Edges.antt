@@ -1,4 +1,4 @@
--- At the limits the definitions give what document 01 says, row by row, by computation.
+-- At the limits the definitions give what the rules say, row by row, by computation.
 -- Assumes nothing.
 use mathlib.Core.Path.{refl}
 use Rattle.promises.specs.Calls.{Agrees}

@@ -1,4 +1,4 @@
--- The bench examples: what the definitions give, and what document 01 says.
+-- The bench examples: what the definitions give, and what the rules say.
 -- Assumes nothing.
 use Rattle.std.specs.Prelude.{ℕ, List, [], ◌∷◌, ◌++◌}
 use Prim.Native.Char.{code}

@@ -1,4 +1,4 @@
--- A step does what document 01's sentence says; where there is none, no gate has a good replacement.
+-- A step does what the rule's sentence says; where there is none, no gate has a good replacement.
 -- Assumes nothing.
 use mathlib.Core.Path.{◌≡◌, refl, subst}
 use mathlib.Core.Logic.{⊎_elim}

@@ -1,4 +1,4 @@
--- Reading any bytes whatever: the graph that they state, or the refusal that document 01's order selects.
+-- Reading any bytes whatever: the graph that they state, or the refusal that the order of refusals selects.
 -- Assumes nothing.
 use Rattle.std.specs.Prelude.{ℕ, suc, ◌+◌, ◌*◌, ◌≤◌, Bool, true, false, cond, not, ◌&&◌, ◌||◌, leb, ltb, eqb, length, get_or}
 use mathlib.Core.List.{List, [], ◌∷◌, map, flat_map}

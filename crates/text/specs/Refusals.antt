@@ -1,4 +1,4 @@
--- When reading and writing are refused, as document 01's table says it.
+-- When reading and writing are refused, in facts.
 -- Assumes nothing.
 use Rattle.std.specs.Prelude.{ℕ, ◌+◌, ◌≤◌, ◌<◌, ◌≡◌, true, false, List, [], ◌∷◌, ◌++◌, length, get_or}
 use Rattle.graph.specs.declared.refusal.Refusal.{Refusal}

@@ -1,4 +1,4 @@
-//! The second implementation of document 01, written from its text and from
+//! The second implementation of the rules, written from their text and from
 //! the readings of its open points, and from nothing of the proved crates.
 //! Every call is a plain function over lent slices. A refusal writes nothing,
 //! and places past the need keep their contents.

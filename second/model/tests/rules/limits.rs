@@ -1,4 +1,4 @@
-//! The limits and rules that document 01 also wants run.
+//! The limits and rules that are also to be run.
 
 use crate::given::*;
 use model::{pick_leaves, table, Leaves, Refusal, Var};

@@ -1,4 +1,4 @@
-//! The rules of document 01, by hand-made examples.
+//! The rules, by hand-made examples.
 
 mod bench;
 mod buffers;

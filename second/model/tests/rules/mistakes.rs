@@ -1,4 +1,4 @@
-//! The mistakes that document 01 expects.
+//! The mistakes that the rules expect.
 
 use crate::given::*;
 use model::run::step;

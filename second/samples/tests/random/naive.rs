@@ -1,4 +1,4 @@
-//! Slow and plain restatements of document 01's definitions.
+//! Slow and plain restatements of the rules' definitions.
 
 use model::{table, Graph, Leaves, Lit, Proposal, Var};
 use std::collections::BTreeSet;
