@@ -37,6 +37,14 @@ impl<'a> Net<'a> {
         self.inputs
     }
 
+    // The words of its gates.
+    pub fn gates(&self) -> &'a [u32]
+        ensures value { result.now ≡ self.now.gates }
+        ensures well_formed { WellFormedNet self.now }
+    {
+        self.gates
+    }
+
     // How many gates it has.
     pub fn size(&self) -> usize
         ensures value { result ≡ size self.now }

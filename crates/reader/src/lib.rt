@@ -3,16 +3,18 @@
 
 mod aside;
 mod header;
+mod limited;
 mod section;
 
 ghost use Rattle.std.specs.Prelude.{◌≡◌};
 ghost use Rattle.graph.specs.Lent.{buffers_of, ◌leaving◌};
 ghost use Rattle.text.specs.Calls.{read_effect};
 
-use aside::read_aside;
+use aside::{Aside, read_aside};
 use checker::no_room;
 use copier::copy_words;
-use graph::{MOST_GATES, MOST_OUTPUTS, Refusal};
+use graph::{MOST_OUTPUTS, Refusal};
+use section::MOST_GATE_WORDS;
 use text::Counts;
 
 // Reads a text: the counts of the graph that it states, whose words are then in the lent lists; or why it is refused.
@@ -21,13 +23,17 @@ pub fn read(text: &[u8], gates: &mut [u32], outputs: &mut [u32]) -> Result<Count
     ensures { result leaving buffers_of gates.new outputs.new
         ≡ read_effect text.now (buffers_of gates.old outputs.old) }
 {
-    let mut gate_words = [0u32; 2 * MOST_GATES];
-    let mut output_words = [0u32; MOST_OUTPUTS];
-    let counts = read_aside(text, &mut gate_words, &mut output_words)?;
-    if no_room(2 * counts.gates, counts.outputs, gates, outputs) {
+    let mut aside = Aside {
+        gates: [0; MOST_GATE_WORDS],
+        outputs: [0; MOST_OUTPUTS],
+    };
+    let counts = read_aside(text, &mut aside)?;
+    let gate_words = &aside.gates[..2 * counts.gates];
+    let output_words = &aside.outputs[..counts.outputs];
+    if no_room(gate_words.len(), output_words.len(), gates, outputs) {
         return Err(Refusal::NoRoom);
     }
-    copy_words(&gate_words, 2 * counts.gates, gates);
-    copy_words(&output_words, counts.outputs, outputs);
+    copy_words(gate_words, gate_words.len(), gates);
+    copy_words(output_words, output_words.len(), outputs);
     Ok(counts)
 }

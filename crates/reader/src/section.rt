@@ -1,24 +1,27 @@
 // The lines after the first, a section at a time: the place where it ends, or why its first wrong line is refused.
+// `text, at` stay two: a section answers the next place alone, and the text is the same throughout.
 ghost use Rattle.std.specs.Prelude.{◌≡◌, [], ◌+◌, ◌*◌, ◌<◌, ◌≤◌, length, take, drop};
 ghost use Rattle.text.specs.Reading.{gate_needed, inputs_needed, outputs_needed, gates_needed, gate_words};
-ghost use Rattle.reader.specs.Sections.{Limited, no_words, output_words, read_words, section_words};
+ghost use Rattle.reader.specs.Sections.{no_words, output_words, read_words, section_words};
 ghost use Rattle.graph.specs.Graph.{most_inputs, most_gates, larger_first};
 ghost use Rattle.graph.specs.Lent.{laid};
 
-use graph::{Fanins, Lit, Refusal, Var};
+use crate::limited::LimitedHeader;
+use graph::{Fanins, Lit, MOST_GATES, MOST_OUTPUTS, Refusal, Var};
 use scanner::{line_of, line_verdict};
-use text::Header;
+
+// Two words a gate.
+pub(crate) const MOST_GATE_WORDS: usize = 2 * MOST_GATES;
 
 // Input line k is 2k.
-pub(crate) fn read_inputs(text: &[u8], at: usize, header: Header) -> Result<usize, Refusal>
-    requires { Limited header }
-    ensures { section_words text.now [] result ≡ read_words no_words (inputs_needed header) (drop at text.now) }
+pub(crate) fn read_inputs(text: &[u8], at: usize, limited: LimitedHeader) -> Result<usize, Refusal>
+    ensures { section_words text.now [] result ≡ read_words no_words (inputs_needed limited.header) (drop at text.now) }
 {
     let mut next = at;
-    for k in 0..header.inputs {
+    for k in 0..limited.header.inputs {
         let mut numbers = [0; 1];
         let line = line_of(text, next, &mut numbers);
-        let kept = numbers[0] == Var(k + 1).plain().0;
+        let kept = Lit(numbers[0]) == Var(k + 1).plain();
         next = line_verdict(line, kept)?;
     }
     Ok(next)
@@ -28,17 +31,15 @@ pub(crate) fn read_inputs(text: &[u8], at: usize, header: Header) -> Result<usiz
 pub(crate) fn read_outputs(
     text: &[u8],
     at: usize,
-    header: Header,
-    words: &mut [u32],
+    limited: LimitedHeader,
+    words: &mut [u32; MOST_OUTPUTS],
 ) -> Result<usize, Refusal>
-    requires limited { Limited header }
-    requires outputs_in_bounds { header.outputs ≤ length words.old }
-    ensures { section_words text.now (take header.outputs words.new) result
-        ≡ read_words output_words (outputs_needed header) (drop at text.now) }
+    ensures { section_words text.now (take limited.header.outputs words.new) result
+        ≡ read_words output_words (outputs_needed limited.header) (drop at text.now) }
 {
-    let most = Var(header.highest).plain().0 + 1;
+    let most = Var(limited.header.highest).plain().0 + 1;
     let mut next = at;
-    for word in words[..header.outputs as usize].iter_mut() {
+    for word in words[..limited.header.outputs as usize].iter_mut() {
         let mut numbers = [0; 1];
         let line = line_of(text, next, &mut numbers);
         next = line_verdict(line, numbers[0] <= most)?;
@@ -53,8 +54,8 @@ fn is_gate_line(numbers: [u32; 3], gate: Var) -> bool
     requires { gate.0 ≤ most_inputs + most_gates }
     ensures { result ≡ (gate_needed gate.0).rule numbers }
 {
-    let own = gate.plain().0;
-    numbers[0] == own && numbers[1] < own && numbers[2] < own
+    let own = gate.plain();
+    Lit(numbers[0]) == own && Lit(numbers[1]) < own && Lit(numbers[2]) < own
 }
 
 // Stores a gate's two literals, the larger first.
@@ -72,17 +73,15 @@ fn store_gate(words: &mut [u32], at: usize, one: Lit, other: Lit)
 pub(crate) fn read_gates(
     text: &[u8],
     at: usize,
-    header: Header,
-    words: &mut [u32],
+    limited: LimitedHeader,
+    words: &mut [u32; MOST_GATE_WORDS],
 ) -> Result<usize, Refusal>
-    requires limited { Limited header }
-    requires gates_in_bounds { 2 * header.gates ≤ length words.old }
-    ensures { section_words text.now (take (2 * header.gates) words.new) result
-        ≡ read_words gate_words (gates_needed header) (drop at text.now) }
+    ensures { section_words text.now (take (2 * limited.header.gates) words.new) result
+        ≡ read_words gate_words (gates_needed limited.header) (drop at text.now) }
 {
-    let free = header.free();
+    let free = limited.header.free();
     let mut next = at;
-    for k in 0..header.gates {
+    for k in 0..limited.header.gates {
         let mut numbers = [0; 3];
         let line = line_of(text, next, &mut numbers);
         let kept = is_gate_line(numbers, Var(free + k + 1));

@@ -1,4 +1,5 @@
 // A lent text, read on from a place: bytes that must stand there, lines of numbers with the verdict on one, and the rest. Nothing is asked of the caller.
+// `text, at` stay two: what a function answers is the next place alone, and the text is the same throughout.
 #![tactic(auto)]
 
 mod bytes;

@@ -13,6 +13,7 @@ pub fn line_of(text: &[u8], at: usize, numbers: &mut [u32]) -> Option<usize>
         ≡ line_of (length numbers.old) (drop at text.now) }
 {
     let mut reader = TextReader { text, at };
+    // An index by hand: the byte after a number hangs on it, and nothing is known of a list after `iter_mut().enumerate()`.
     for k in 0..numbers.len() {
         let number = reader.number()?;
         numbers[k] = number.value;

@@ -23,7 +23,7 @@ fn write_verdict(graph: &LentGraph, bytes: &[u8]) -> Result<(), Refusal>
     if !well_formed(graph) {
         return Err(Refusal::BadGraph);
     }
-    if bytes.len() < text_length(graph) {
+    if bytes.len() < text_length(&graph.checked()) {
         return Err(Refusal::NoRoom);
     }
     Ok(())
@@ -34,5 +34,5 @@ pub fn write(graph: &LentGraph, bytes: &mut [u8]) -> Result<usize, Refusal>
     ensures { result leaving bytes.new ≡ write_effect graph.now bytes.old }
 {
     write_verdict(graph, bytes)?;
-    Ok(put_text(graph, bytes))
+    Ok(put_text(&graph.checked(), bytes))
 }

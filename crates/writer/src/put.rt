@@ -1,13 +1,12 @@
 // Lines written out: each answers the place after it.
 ghost use Rattle.std.specs.Prelude.{◌≡◌, false, true, ◌+◌, ◌*◌, ◌≤◌, length};
-ghost use Rattle.graph.specs.Graph.{free, sinks, most_inputs, most_gates, WellFormed};
 ghost use Rattle.graph.specs.Lent.{laid};
 ghost use Rattle.text.specs.Line.{separator, line, lines};
 ghost use Rattle.text.specs.States.{input_numbers, output_numbers, gate_numbers, text_of};
 
 use crate::counting::counts;
 use crate::decimal::put_decimal;
-use graph::{LentGraph, Var};
+use graph::{CheckedGraph, Net, Var};
 
 // What follows a number when so many more are to come in its line.
 #[tactic(auto, unfolding(text::specs::Line::separator))]
@@ -34,44 +33,41 @@ fn put_line(bytes: &mut [u8], at: usize, numbers: &[u32]) -> usize
 }
 
 #[tactic(auto, using(graph::proofs::Lent::pieces_all, crate::proofs::Writing::input_lines))]
-fn put_inputs(bytes: &mut [u8], at: usize, graph: &LentGraph) -> usize
-    requires few_inputs { free graph.now.net ≤ most_inputs }
-    requires fits { at + length (lines (input_numbers graph.now.net)) ≤ length bytes.old }
-    ensures value { result ≡ at + length (lines (input_numbers graph.now.net)) }
-    ensures bytes_after { bytes.new ≡ laid at (lines (input_numbers graph.now.net)) bytes.old }
+fn put_inputs(bytes: &mut [u8], at: usize, net: &Net) -> usize
+    requires { at + length (lines (input_numbers net.now)) ≤ length bytes.old }
+    ensures value { result ≡ at + length (lines (input_numbers net.now)) }
+    ensures bytes_after { bytes.new ≡ laid at (lines (input_numbers net.now)) bytes.old }
 {
     let mut next = at;
-    for k in 0..graph.inputs() {
+    for k in 0..net.inputs() {
         next = put_line(bytes, next, &[Var(k as u32 + 1).plain().0]);
     }
     next
 }
 
 #[tactic(auto, using(graph::proofs::Lent::pieces_all, crate::proofs::Writing::output_lines))]
-fn put_outputs(bytes: &mut [u8], at: usize, graph: &LentGraph) -> usize
-    requires { at + length (lines (output_numbers (sinks graph.now))) ≤ length bytes.old }
-    ensures value { result ≡ at + length (lines (output_numbers (sinks graph.now))) }
-    ensures bytes_after { bytes.new ≡ laid at (lines (output_numbers (sinks graph.now))) bytes.old }
+fn put_outputs(bytes: &mut [u8], at: usize, outputs: &[u32]) -> usize
+    requires { at + length (lines (output_numbers outputs.now)) ≤ length bytes.old }
+    ensures value { result ≡ at + length (lines (output_numbers outputs.now)) }
+    ensures bytes_after { bytes.new ≡ laid at (lines (output_numbers outputs.now)) bytes.old }
 {
     let mut next = at;
-    for output in graph.outputs() {
+    for output in outputs {
         next = put_line(bytes, next, &[*output]);
     }
     next
 }
 
 #[tactic(auto, using(graph::proofs::Lent::pieces_all, crate::proofs::Writing::gate_lines))]
-fn put_gates(bytes: &mut [u8], at: usize, graph: &LentGraph) -> usize
-    requires few { (free graph.now.net ≤ most_inputs) × (length graph.now.net.gates ≤ 2 * most_gates) }
-    requires fits { at + length (lines (gate_numbers graph.now.net (λ k. false))) ≤ length bytes.old }
-    ensures value { result ≡ at + length (lines (gate_numbers graph.now.net (λ k. false))) }
-    ensures bytes_after { bytes.new
-        ≡ laid at (lines (gate_numbers graph.now.net (λ k. false))) bytes.old }
+fn put_gates(bytes: &mut [u8], at: usize, net: &Net) -> usize
+    requires { at + length (lines (gate_numbers net.now (λ k. false))) ≤ length bytes.old }
+    ensures value { result ≡ at + length (lines (gate_numbers net.now (λ k. false))) }
+    ensures bytes_after { bytes.new ≡ laid at (lines (gate_numbers net.now (λ k. false))) bytes.old }
 {
     let mut next = at;
-    for k in 0..graph.size() {
-        let own = Var((graph.inputs() + k + 1) as u32);
-        let gate = graph.fanins_of(own);
+    for k in 0..net.size() {
+        let own = Var((net.inputs() + k + 1) as u32);
+        let gate = net.fanins_of(own);
         next = put_line(bytes, next, &[own.plain().0, gate.first.0, gate.second.0]);
     }
     next
@@ -79,15 +75,15 @@ fn put_gates(bytes: &mut [u8], at: usize, graph: &LentGraph) -> usize
 
 // The whole text, from the first byte on; its number of bytes.
 #[tactic(auto, using(crate::proofs::Writing::text_size))]
-pub(crate) fn put_text(graph: &LentGraph, bytes: &mut [u8]) -> usize
-    requires is_well_formed { WellFormed graph.now }
-    requires fits { length (text_of graph.now) ≤ length bytes.old }
+pub(crate) fn put_text(graph: &CheckedGraph, bytes: &mut [u8]) -> usize
+    requires { length (text_of graph.now) ≤ length bytes.old }
     ensures value { result ≡ length (text_of graph.now) }
     ensures bytes_after { bytes.new ≡ laid 0 (text_of graph.now) bytes.old }
 {
+    let net = graph.net();
     bytes[..4].copy_from_slice(b"aag ");
     let after_counts = put_line(bytes, 4, &counts(graph));
-    let after_inputs = put_inputs(bytes, after_counts, graph);
-    let after_outputs = put_outputs(bytes, after_inputs, graph);
-    put_gates(bytes, after_outputs, graph)
+    let after_inputs = put_inputs(bytes, after_counts, &net);
+    let after_outputs = put_outputs(bytes, after_inputs, graph.outputs());
+    put_gates(bytes, after_outputs, &net)
 }

@@ -11,12 +11,17 @@ returns-in_err-write_verdict c =
     rw (p.1, p.2) (writes_nothing _ _ c.write_verdict.ensures c.in_err-write_verdict.was)
 
 -- past the refusals the graph is well formed, and there is room for its text
+pub checked-requires : goal.checked-requires
+checked-requires c =
+    let fine = fine_means _ _ c.write_verdict.ensures c.in_ok-write_verdict.was in
+    well_formed_lem _ fine.0
+
 pub put_text-requires : goal.put_text-requires
 put_text-requires c =
     let fine = fine_means _ _ c.write_verdict.ensures c.in_ok-write_verdict.was in
-    record { is_well_formed = well_formed_lem _ fine.0; fits = fine.1 }
+    rw c.checked.ensures fine.1
 
 pub returns : goal.returns
 returns c =
-    rw (c.put_text.ensures.value, c.put_text.ensures.bytes_after)
+    rw (c.put_text.ensures.value, c.put_text.ensures.bytes_after, c.checked.ensures)
     (writes_text _ _ c.write_verdict.ensures c.in_ok-write_verdict.was)

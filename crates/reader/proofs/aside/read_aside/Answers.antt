@@ -27,9 +27,9 @@ returns-in_err-header_verdict-clause-result_after c =
     let found : c.header_line.result ≡ Some c.in_ok-header.field-0 = grind arith in
     rw (p.1, p.2) (header_refused _ _ (rw found at c.header_line.ensures) c.in_err-header_verdict.ensures)
 
-pub read_body-requires-clause-limited : goal.read_body-requires-clause-limited
+pub invariant_of-read_body : goal.invariant_of-read_body
 unfolding verdict_is
-read_body-requires-clause-limited c = header_limited _ _ c.in_ok-header_verdict.ensures
+invariant_of-read_body c = record { limited = header_limited _ _ c.in_ok-header_verdict.ensures }
 
 pub returns-clause-result_after : goal.returns-clause-result_after
 unfolding verdict_is

@@ -26,7 +26,7 @@ returns-in_err-next c =
     (sym
     (rw c.free-free.ensures at
     (line_refused c.loop-k.invariant _ _ _ c.line_of-line.ensures (rw add-one at c.is_gate_line-kept.ensures)
-    {n = c.args.header.gates} c.in_err-next.ensures.refusal c.loop-k-test.true)))
+    {n = c.args.limited.header.gates} c.in_err-next.ensures.refusal c.loop-k-test.true)))
 
 pub loop-k-preserved : goal.loop-k-preserved
 unfolding gate_needed gate_words larger_first
@@ -43,5 +43,5 @@ loop-k-preserved c =
 pub returns : goal.returns
 unfolding section_words
 returns c =
-    let all : c.loop-k.k ≡ c.args.header.gates = omega arith in
+    let all : c.loop-k.k ≡ c.args.limited.header.gates = omega arith in
     sym (rw (all, c.free-free.ensures) at c.loop-k.invariant.is)

@@ -19,10 +19,10 @@ loop-word-init c = none_so_far
 pub returns-in_err-next : goal.returns-in_err-next
 unfolding section_words output_needed
 returns-in_err-next c =
-    let n = c.args.header.outputs in
+    let n = c.args.limited.header.outputs in
     let p = err_from_is_err_and c.from_residual.result c.from_residual.ensures.1 in
     let less : c.loop-word.word-index < n =
-    omega (arith, c.loop-word-test.true, length-take-le n c.args.words.now c.requires.outputs_in_bounds) in
+    omega (arith, c.loop-word-test.true, length-take-le n c.args.words.now (omega arith)) in
     rw (p.1, p.2)
     (sym
     (rw c.plain-most.ensures at
@@ -39,9 +39,9 @@ pub returns : goal.returns
 unfolding section_words output_needed
 returns c =
     let w = c.loop-word in
-    let n = c.args.header.outputs in
+    let n = c.args.limited.header.outputs in
     let long : length w.word-items ≡ n =
-    omega (arith, w.auto.word-items, length-take-le n c.args.words.now c.requires.outputs_in_bounds) in
+    omega (arith, w.auto.word-items, length-take-le n c.args.words.now (omega arith)) in
     let all : w.word-index ≡ n = omega (arith, long) in
     let read = rw (all, c.plain-most.ensures) at w.invariant.is in
     let stored : take n (w.word-items ++ drop n c.args.words.now) ≡ take n w.word-items = take-append-le n w.word-items _ (omega arith) in

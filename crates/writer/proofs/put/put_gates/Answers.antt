@@ -9,15 +9,15 @@ use Rattle.writer.proofs.put.put_gates.Goals as goal
 pub loop-k-init : goal.loop-k-init
 loop-k-init c =
     let a = c.args in
-    let net = a.graph.now.net in
-    pieces_none (gate_line net) (size net) a.at a.bytes.now (rw (gate_lines net) at c.requires.fits)
+    let net = a.net.now in
+    pieces_none (gate_line net) (size net) a.at a.bytes.now (rw (gate_lines net) at c.requires)
 
 pub put_line-next-requires : goal.put_line-next-requires
 put_line-next-requires c =
-    rw (c.plain.ensures, c.fanins_of-gate.ensures.first_value, c.fanins_of-gate.ensures.second_value, c.inputs.ensures)
+    rw (c.plain.ensures, c.fanins_of-gate.ensures.first_value, c.fanins_of-gate.ensures.second_value, c.inputs.ensures.value)
     (piece_room c.loop-k.invariant (omega arith))
 
 pub loop-k-preserved : goal.loop-k-preserved
 loop-k-preserved c =
-    let put = rw (c.plain.ensures, c.fanins_of-gate.ensures.first_value, c.fanins_of-gate.ensures.second_value, c.inputs.ensures) at c.put_line-next.ensures in
+    let put = rw (c.plain.ensures, c.fanins_of-gate.ensures.first_value, c.fanins_of-gate.ensures.second_value, c.inputs.ensures.value) at c.put_line-next.ensures in
     piece_then c.loop-k.invariant (omega arith) (put.value, put.bytes_after)

@@ -5,4 +5,4 @@ use Rattle.writer.proofs.Writing.{gate_line}
 use Rattle.writer.proofs.put.put_gates.Given as goal
 
 abbrev pub invariant-loop-k : goal.invariant-loop-k
-invariant-loop-k l = Pieces (gate_line l.graph.net) (size l.graph.net) l.at l.initial.bytes l.k l.next l.bytes
+invariant-loop-k l = Pieces (gate_line l.net) (size l.net) l.at l.initial.bytes l.k l.next l.bytes

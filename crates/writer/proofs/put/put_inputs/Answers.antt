@@ -9,8 +9,8 @@ use Rattle.writer.proofs.put.put_inputs.Goals as goal
 pub loop-k-init : goal.loop-k-init
 loop-k-init c =
     let a = c.args in
-    let net = a.graph.now.net in
-    pieces_none input_line (free net) a.at a.bytes.now (rw (input_lines net) at c.requires.fits)
+    let net = a.net.now in
+    pieces_none input_line (free net) a.at a.bytes.now (rw (input_lines net) at c.requires)
 
 pub put_line-next-requires : goal.put_line-next-requires
 put_line-next-requires c = rw c.plain.ensures (piece_room c.loop-k.invariant (omega arith))

@@ -27,13 +27,16 @@ returns-clause-bytes_after c =
     let outputs = lines (output_numbers (sinks g)) in
     let size = text_size g in
     let counted = rw c.counts.ensures at c.put_line-after_counts.ensures in
+    let inputs_put = rw c.net-net.ensures.value at c.put_inputs-after_inputs.ensures in
+    let outputs_put = rw c.outputs.ensures.value at c.put_outputs-after_outputs.ensures in
+    let gates_put = rw c.net-net.ensures.value at c.put_gates.ensures in
     let all_parts = put_front before (sym (text_parts g))
     (put_then 0 (aag ++ numbers ++ inputs ++ outputs) (gate_part g.net) before (omega arith)
     (put_then 0 (aag ++ numbers ++ inputs) outputs before (omega arith)
     (put_then 0 (aag ++ numbers) inputs before (omega arith)
     (put_then 0 aag numbers before (omega arith) (aag_put before c.copy_from_slice.new.self c.copy_from_slice.ensures.after)
     (counted.value, counted.bytes_after))
-    (c.put_inputs-after_inputs.ensures.value, c.put_inputs-after_inputs.ensures.bytes_after))
-    (c.put_outputs-after_outputs.ensures.value, c.put_outputs-after_outputs.ensures.bytes_after))
-    (c.put_gates.ensures.value, c.put_gates.ensures.bytes_after)) in
+    (inputs_put.value, inputs_put.bytes_after))
+    (outputs_put.value, outputs_put.bytes_after))
+    (gates_put.value, gates_put.bytes_after)) in
     all_parts.1
