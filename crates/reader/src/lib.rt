@@ -33,7 +33,7 @@ pub fn read(text: &[u8], gates: &mut [u32], outputs: &mut [u32]) -> Result<Count
     if no_room(gate_words.len(), output_words.len(), gates, outputs) {
         return Err(Refusal::NoRoom);
     }
-    copy_words(gate_words, gate_words.len(), gates);
-    copy_words(output_words, output_words.len(), outputs);
+    copy_words(gate_words, gates);
+    copy_words(output_words, outputs);
     Ok(counts)
 }

@@ -1,7 +1,6 @@
 -- `reader::read` meets its contract: the words are kept aside until the text is judged, and copied where both lists have room.
 -- Assumes nothing.
 use native.Mathlib.Omega.{arith}
-use Rattle.std.proofs.Math.Seq.{take-length}
 use Rattle.std.proofs.lemmas.Result.{err_from_is_err_and}
 use Rattle.graph.specs.Lent.{stored_in}
 use Rattle.reader.proofs.KeptAside.{aside_refused, no_room, room_enough}
@@ -19,5 +18,5 @@ pub returns : goal.returns
 unfolding stored_in
 returns c =
     let e = c.in_ok-counts.ensures in
-    rw (c.copy_words.ensures, c.copy_words-2.ensures) (simp take-length
-    (room_enough _ _ _ _ e.result_after _ c.no_room.ensures (omega arith) (omega arith) c.if-no_room.false))
+    rw (c.copy_words.ensures, c.copy_words-2.ensures)
+    (room_enough _ _ _ _ e.result_after _ c.no_room.ensures (omega arith) (omega arith) c.if-no_room.false)
