@@ -11,16 +11,17 @@ use lib.Seq.{get_or-set_same, get_or-set_other}
 use Rattle.std.specs.Prelude.{Result, Ok, Err}
 use Rattle.graph.specs.declared.refusal.Refusal.{Refusal}
 use Rattle.graph.specs.declared.refusal.Refusal.TheVariants.{NoRoom}
-use Rattle.graph.specs.Literal.{var_of}
 use Rattle.graph.specs.Lent.{short, written, Buffers, buffers_of, no_room_for, stored_in, ◌leaving◌}
 use Rattle.graph.specs.Graph.{Net, Graph, over, size, last, IsGate, Lawful, WellFormed, WellFormedNet}
 use Rattle.graph.specs.Use.{marks, InUse, count_marks}
-use Rattle.graph.specs.Drop.{dropped}
+use Rattle.graph.specs.Drop.{new_number, dropped}
 use Rattle.graph.proofs.Graph.{net_well_formed, sinks_below}
 use Rattle.graph.proofs.Lists.{same_tests, equal_or_not}
+use Rattle.graph.proofs.Lent.{room_iff}
+use Rattle.checker.proofs.Marking.{most_variables}
 use Rattle.replacement.specs.declared.types.Proposal.{Proposal}
 use Rattle.replacement.specs.declared.types.Applied.{Applied}
-use Rattle.replacement.specs.Rewire.{Wires, to_literal, to_and, redirected, rewired_net, rewired, finished}
+use Rattle.replacement.specs.Rewire.{Wires, redirected, rewired, finished}
 use Rattle.replacement.specs.Calls.{left_in}
 use Rattle.replacement.specs.Vanish.{literals, Without, From, MarksPast}
 use Rattle.replacement.proofs.Rewire.{and_kind, old_gate, rewired_size, rewired_free}
@@ -30,6 +31,9 @@ use Rattle.replacement.proofs.Finished.{finished_sinks}
 use Rattle.weigher.specs.Held.{set_each, Holding}
 use Rattle.weigher.proofs.Walk.{walk_marks, listed_all}
 use Rattle.weigher.proofs.Weighing.{closed_past}
+use Rattle.replacer.specs.declared.rewire.Rewiring.{Rewiring}
+use Rattle.replacer.specs.declared.renumber.Renumbering.{Renumbering}
+use Rattle.replacer.specs.Rewiring.{net_after}
 use Rattle.replacer.specs.Finishing.{KeptMarks, KeptPast, new_numbers, by_numbers, kept_gates, finish_effect}
 use Rattle.replacer.proofs.Kept.{
   kept_gates_are,
@@ -40,12 +44,6 @@ use Rattle.replacer.proofs.Kept.{
   rewired_numbers_at,
   redirected_below,
 }
-
--- a proposal's literals are the graph's
-pub literals_within : (net : Net) (root : ℕ) (p : Proposal) → IsGate net root → Wires root p
-    → (var_of p.first.0 ≤ last net) × (var_of p.second.0 ≤ last net)
-literals_within net root p gate (to_literal k l s) = let h = gate.within in (omega arith, omega arith)
-literals_within net root p gate (to_and k l m t) = let h = gate.within in (omega arith, omega arith)
 
 -- ---- the marks: those past the root, what the literals reach, and the root where an AND stands there
 
@@ -110,67 +108,93 @@ same_graph : {a a' o o' : ℕ} {gs gs' os os' : List ℕ} → a ≡ a' → o ≡
     → told a o leaving buffers_of gs os ≡ told a' o' leaving buffers_of gs' os'
 same_graph p q r t = rw (p, q, r, t)
 
-module _ (g : Graph) (ok : WellFormed g) (root : ℕ) (gate : IsGate g.net root) (p : Proposal) (wires : Wires root p) (kept : List Bool)
-    (stays : KeptMarks g root p kept) where
-  same : (v : ℕ) → IsGate (rewired_net g.net root p) v → get_or kept v false ≡ get_or (marks (rewired g root p)) v false
-  same v i = stays.marks_are v (old_gate g.net root p v i)
+-- what is at hand once the numbers are made: the marks of what stays in use, and the numbers by them
+pub record Ready (r : Rewiring) (ms : List Bool) (new : Renumbering) : Type 0 where
+  pub ok : WellFormed r.graph.now
+  pub stays : KeptMarks r.graph.now r.root.0 r.proposal ms
+  pub gates_value : new.gates ≡ count_marks r.graph.now.net ms (size r.graph.now.net)
+  pub numbers_value : new.numbers ≡ written (new_numbers r.graph.now.net ms) (replicate most_variables 0)
 
-  module _ (n : ℕ) where
-    -- the new numbers as the code's array has them
-    abbrev pub numbers : List ℕ
-    numbers = written (new_numbers g.net kept) (replicate n 0)
+-- the code has the net under another name
+pub is_ready : (r : Rewiring) (ms : List Bool) (new : Renumbering) {net : Net} → net ≡ r.graph.now.net → WellFormed r.graph.now
+    → KeptMarks r.graph.now r.root.0 r.proposal ms → new.gates ≡ count_marks net ms (size net)
+    → new.numbers ≡ written (new_numbers net ms) (replicate most_variables 0) → Ready r ms new
+is_ready r ms new e ok stays gates numbers =
+    record { ok = ok; stays = stays; gates_value = rw e at gates; numbers_value = rw e at numbers }
 
-    pub gates_are : kept_gates (rewired_net g.net root p) kept numbers ≡ (finished g root p).net.gates
-    unfolding finished dropped rewired
-    gates_are =
-        kept_gates_are (rewired_net g.net root p) kept (marks (rewired g root p)) same _
-        (rewired_numbers_at g.net root p kept (replicate n 0))
-        (rewired_within g.net root p (net_well_formed g ok) gate wires)
+module _ (r : Rewiring) (ms : List Bool) (new : Renumbering) (ready : Ready r ms new) where
+  abbrev graph : Graph
+  graph = r.graph.now
 
-    finished_outputs_are : map (λ l. by_numbers numbers (redirected root p l)) g.outputs ≡ (finished g root p).outputs
-    unfolding finished dropped rewired
-    finished_outputs_are =
-        outputs_are (rewired_net g.net root p) kept (marks (rewired g root p)) same _
-        (rewired_numbers_at g.net root p kept (replicate n 0)) root p g.outputs
-        (λ j h. omega (
-          arith,
-          redirected_below root p wires g.outputs (suc (last g.net))
-              (sinks_below g ok.lawful (suc (last g.net)) (omega arith)) j h,
-          rewired_size g.net root p,
-          rewired_free g.net root p,
-        ))
+  abbrev done : Graph
+  done = finished r.graph.now r.root.0 r.proposal
 
-    words_needed : length (kept_gates (rewired_net g.net root p) kept numbers) ≡ 2 * count_marks g.net kept (size g.net)
-    words_needed =
-        kept_count (rewired_net g.net root p) kept numbers
-        ∙ ap (λ (k : ℕ). 2 * count_marks (rewired_net g.net root p) kept k) (rewired_size g.net root p)
-        ∙ ap (λ (k : ℕ). 2 * k) (same_counts g.net root p kept (size g.net))
+  same : (v : ℕ) → IsGate (net_after r) v → get_or ms v false ≡ get_or (marks (rewired graph r.root.0 r.proposal)) v false
+  same v i = ready.stays.marks_are v (old_gate graph.net r.root.0 r.proposal v i)
 
-    finished_words : length (finished g root p).net.gates ≡ 2 * count_marks g.net kept (size g.net)
-    finished_words = sym (ap length gates_are) ∙ words_needed
+  numbers_at : (v : ℕ) → v ≤ last (net_after r) → get_or new.numbers v 0 ≡ new_number (net_after r) ms v
+  numbers_at v h =
+      ap (λ (ns : List ℕ). get_or ns v 0) ready.numbers_value
+      ∙ rewired_numbers_at graph.net r.root.0 r.proposal ms (replicate most_variables 0) v h
 
-    -- ---- the room, and what is stored
+  gates_are : kept_gates (net_after r) ms new.numbers ≡ done.net.gates
+  unfolding finished dropped rewired
+  gates_are =
+      kept_gates_are (net_after r) ms (marks (rewired graph r.root.0 r.proposal)) same new.numbers numbers_at
+      (rewired_within graph.net r.root.0 r.proposal (net_well_formed graph ready.ok) r.gate r.wires)
 
-    module _ (b : Buffers) {m : ℕ} (count : m ≡ count_marks g.net kept (size g.net)) where
-      pub room_is : short (2 * m) b.gates || short (length g.outputs) b.outputs ≡ no_room_for (finished g root p) b
-      unfolding no_room_for
-      room_is =
-          ap₂ (λ (i j : ℕ). short i b.gates || short j b.outputs) (ap (λ (k : ℕ). 2 * k) count ∙ sym finished_words)
-          (sym (finished_sinks g root p))
+  finished_outputs_are : map (λ l. by_numbers new.numbers (redirected r.root.0 r.proposal l)) graph.outputs ≡ done.outputs
+  unfolding finished dropped rewired
+  finished_outputs_are =
+      outputs_are (net_after r) ms (marks (rewired graph r.root.0 r.proposal)) same new.numbers numbers_at r.root.0 r.proposal graph.outputs
+      (λ j h. omega (
+        arith,
+        redirected_below r.root.0 r.proposal r.wires graph.outputs (suc (last graph.net))
+            (sinks_below graph ready.ok.lawful (suc (last graph.net)) (omega arith)) j h,
+        rewired_size graph.net r.root.0 r.proposal,
+        rewired_free graph.net r.root.0 r.proposal,
+      ))
 
-      pub finish_refused : no_room_for (finished g root p) b ≡ true → Err NoRoom leaving b ≡ finish_effect g root p b
-      unfolding finish_effect
-      finish_refused e = rw e
+  words_needed : length (kept_gates (net_after r) ms new.numbers) ≡ 2 * new.gates
+  words_needed =
+      kept_count (net_after r) ms new.numbers
+      ∙ ap (λ (k : ℕ). 2 * count_marks (net_after r) ms k) (rewired_size graph.net r.root.0 r.proposal)
+      ∙ ap (λ (k : ℕ). 2 * k) (same_counts graph.net r.root.0 r.proposal ms (size graph.net) ∙ sym ready.gates_value)
 
-      pub finish_stored : no_room_for (finished g root p) b ≡ false → {gs os : List ℕ}
-          → gs ≡ written (kept_gates (rewired_net g.net root p) kept numbers) b.gates
-          → os ≡ written (map (λ l. by_numbers numbers (redirected root p l)) g.outputs) b.outputs
-          → told m (length g.outputs) leaving buffers_of gs os ≡ finish_effect g root p b
-      unfolding finish_effect left_in stored_in
-      finish_stored e x y =
-          let gates : m ≡ size (finished g root p).net = omega (arith, count, finished_words) in
-          same_graph gates
-          (sym (finished_sinks g root p))
-          (x ∙ ap (λ (ws : List ℕ). written ws b.gates) gates_are)
-          (y ∙ ap (λ (ws : List ℕ). written ws b.outputs) finished_outputs_are)
-          ∙ rw e
+  finished_words : length done.net.gates ≡ 2 * new.gates
+  finished_words = sym (ap length gates_are) ∙ words_needed
+
+  -- ---- the room, and what is stored
+
+  module _ (b : Buffers) where
+    -- the code's test is the definition's
+    pub room_tested : {t : Bool} {outputs : List ℕ} → t ≡ short (2 * new.gates) b.gates || short (length outputs) b.outputs
+        → outputs ≡ graph.outputs → t ≡ no_room_for done b
+    unfolding no_room_for
+    room_tested test e = test
+        ∙ ap₂ (λ (i j : ℕ). short i b.gates || short j b.outputs) (sym finished_words)
+        (ap length e ∙ sym (finished_sinks graph r.root.0 r.proposal))
+
+    -- past it there is room for what is put
+    pub room_known : no_room_for done b ≡ false
+        → (length (kept_gates (net_after r) ms new.numbers) ≤ length b.gates) × (length graph.outputs ≤ length b.outputs)
+    room_known e =
+        let room = (room_iff done b).0 e in
+        (omega (arith, ap length gates_are, room.gates_fit), omega (arith, finished_sinks graph r.root.0 r.proposal, room.outputs_fit))
+
+    pub finish_refused : no_room_for done b ≡ true → Err NoRoom leaving b ≡ finish_effect graph r.root.0 r.proposal b
+    unfolding finish_effect
+    finish_refused e = rw e
+
+    pub finish_stored : no_room_for done b ≡ false → {outputs gs os : List ℕ} → outputs ≡ graph.outputs
+        → gs ≡ written (kept_gates (net_after r) ms new.numbers) b.gates
+        → os ≡ written (map (λ l. by_numbers new.numbers (redirected r.root.0 r.proposal l)) graph.outputs) b.outputs
+        → told new.gates (length outputs) leaving buffers_of gs os ≡ finish_effect graph r.root.0 r.proposal b
+    unfolding finish_effect left_in stored_in
+    finish_stored e t x y =
+        let gates : new.gates ≡ size done.net = omega (arith, finished_words) in
+        same_graph gates
+        (ap length t ∙ sym (finished_sinks graph r.root.0 r.proposal))
+        (x ∙ ap (λ (ws : List ℕ). written ws b.gates) gates_are)
+        (y ∙ ap (λ (ws : List ℕ). written ws b.outputs) finished_outputs_are)
+        ∙ rw e

@@ -23,7 +23,7 @@ use Rattle.graph.specs.Drop.{new_number, renumbered, kept_gate, kept_net}
 use Rattle.graph.proofs.Lists.{at_most_or_above, true_or_false, map_same}
 use Rattle.graph.proofs.Gather.{gather_same}
 use Rattle.graph.proofs.Singles.{singles, length_singles, get_d_singles}
-use Rattle.graph.proofs.Swept.{written_length, written_at, written_next}
+use Rattle.graph.proofs.Swept.{written_at, written_next}
 use Rattle.graph.proofs.Renumber.{count_most, number_low, number_most}
 use Rattle.window.proofs.LeavesLaws.{replicate_at}
 use Rattle.checker.proofs.Marking.{count_same, count_more}
@@ -54,9 +54,9 @@ module _ (net : Net) (ms : List Bool) where
       let e : free net + suc k - free net ≡ suc k = omega arith in rw (lt-leb (free net + suc k) (free net) (omega arith), e)
 
   -- the next variable's number is one more where that stays, as a cast gives it
-  pub number_next : (n : ℕ)
-      → new_number net ms n + bool_byte (leb (n + 1) (free net) || get_or ms (n + 1) false) ≡ new_number net ms (n + 1)
-  number_next n = ⊎_elim
+  pub number_next : (n : ℕ) {number : ℕ} {stays : Bool} → number ≡ new_number net ms n
+      → stays ≡ leb (n + 1) (free net) || get_or ms (n + 1) false → number + bool_byte stays ≡ new_number net ms (n + 1)
+  number_next n is stays = rw (is, stays) (⊎_elim
       (λ (l : n + 1 ≤ free net).
       rw (le-leb (n + 1) (free net) l) (omega (arith, number_low net ms n (omega arith), number_low net ms (n + 1) l)))
       (λ (l : free net < n + 1).
@@ -67,7 +67,12 @@ module _ (net : Net) (ms : List Bool) where
       let counted = rw next at (number_counts (n - free net + 1)) in
       let marked = rw place at (count_more net ms (n - free net)) in
       rw (lt-leb (n + 1) (free net) l) (omega arith))
-      (at_most_or_above (n + 1) (free net))
+      (at_most_or_above (n + 1) (free net)))
+
+  -- the last counts all marks
+  pub number_last : (n : ℕ) {number : ℕ} → number ≡ new_number net ms n → n ≡ last net
+      → number ≡ free net + count_marks net ms (size net)
+  number_last n is all = is ∙ ap (new_number net ms) all ∙ number_counts (size net)
 
   -- no number is above the highest variable
   pub number_small : (v : ℕ) → v ≤ last net → new_number net ms v ≤ last net
@@ -79,6 +84,11 @@ module _ (net : Net) (ms : List Bool) where
   abbrev pub numbers_to : ℕ → List ℕ
   numbers_to n = singles (new_number net ms) (suc n)
 
+  -- variable 0 keeps its number
+  pub numbers_start : (n : ℕ) → replicate (suc n) 0 ≡ written (numbers_to 0) (replicate (suc n) 0)
+  unfolding gather written
+  numbers_start n = ap (λ (x : ℕ). x ∷ replicate n 0) (sym (number_low net ms 0 (omega arith)))
+
   pub numbers_more : (n : ℕ) (lent : List ℕ) → n + 1 < length lent
       → set (written (numbers_to n) lent) (n + 1) (new_number net ms (n + 1)) ≡ written (numbers_to (n + 1)) lent
   unfolding gather
@@ -88,7 +98,12 @@ module _ (net : Net) (ms : List Bool) where
       (ap (λ (k : ℕ). set (written (numbers_to n) lent) k (new_number net ms (suc n))) (sym long)
       ∙ written_next (numbers_to n) (new_number net ms (suc n)) lent (omega arith))
 
-  pub all_numbers : length (new_numbers net ms) ≡ suc (last net)
+  pub numbers_all : (n : ℕ) (lent : List ℕ) {ns : List ℕ} → ns ≡ written (numbers_to n) lent → n ≡ last net
+      → ns ≡ written (new_numbers net ms) lent
+  unfolding new_numbers
+  numbers_all n lent is all = is ∙ ap (λ (k : ℕ). written (numbers_to k) lent) all
+
+  all_numbers : length (new_numbers net ms) ≡ suc (last net)
   unfolding new_numbers
   all_numbers = length_singles (new_number net ms) (suc (last net))
 
@@ -98,9 +113,6 @@ module _ (net : Net) (ms : List Bool) where
     numbers_at v h =
         written_at (new_numbers net ms) lent v 0 (omega (arith, all_numbers))
         ∙ get_d_singles (new_number net ms) (suc (last net)) v 0 (omega arith)
-
-    pub numbers_length : last net < length lent → length (written (new_numbers net ms) lent) ≡ length lent
-    numbers_length h = written_length (new_numbers net ms) lent (omega (arith, all_numbers))
 
   pub numbers_small : WellFormedNet net → (n : ℕ) → SmallNumbers (written (new_numbers net ms) (replicate n 0))
   numbers_small ok n = record {

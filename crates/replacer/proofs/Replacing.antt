@@ -1,7 +1,7 @@
 -- Replacing and applying: what is answered by the gain, and what by the verdict on the proposal.
 -- Assumes nothing.
 use mathlib.Core.Path.{◌≡◌, sym, ◌∙◌}
-use mathlib.Core.Bool.{true, false, not}
+use mathlib.Core.Bool.{Bool, true, false, not}
 use mathlib.Core.List.{List, [], ◌∷◌}
 use mathlib.Core.Logic.{⊎_elim}
 use mathlib.Core.Option.{Option, none, some, or_else}
@@ -12,7 +12,7 @@ use Rattle.graph.specs.declared.refusal.Refusal.{Refusal}
 use Rattle.graph.specs.declared.refusal.Refusal.TheVariants.{NoGain, OrderLost, NoRoom}
 use Rattle.graph.specs.Lent.{Buffers, no_room_for, ◌leaving◌}
 use Rattle.graph.specs.Refuse.{Row, ◌⇒◌, first_refusal}
-use Rattle.graph.specs.Graph.{Graph, well_formed, WellFormed}
+use Rattle.graph.specs.Graph.{Net, Graph, well_formed, WellFormed}
 use Rattle.graph.specs.Use.{InUse}
 use Rattle.graph.proofs.Graph.{well_formed_iff}
 use Rattle.graph.proofs.Lists.{true_or_false}
@@ -21,11 +21,31 @@ use Rattle.window.specs.declared.leaf_set.Leaves.{Leaves}
 use Rattle.replacement.specs.declared.types.Proposal.{Proposal}
 use Rattle.replacement.specs.Rewire.{Wires, finished, gain, is_at_least_one, positive}
 use Rattle.replacement.specs.Calls.{proposal_refusals, apply_refusals, left_in, apply_effect}
+use Rattle.replacement.specs.Vanish.{MarksPast, Weighed}
 use Rattle.replacement.proofs.Gain.{gain_iff, positive_iff}
 use Rattle.replacement.proofs.Rewire.{wires_of}
 use Rattle.replacement.proofs.Finished.{finished_well_formed}
 use Rattle.judge.proofs.Verdicts.{proposal_known}
+use Rattle.weigher.specs.Weighing.{GoingWith, Gains}
 use Rattle.replacer.specs.Finishing.{finish_effect, replace_effect}
+
+-- ---- what the weigher tells, where the code has the net under another name
+
+module _ (g : Graph) (root : ℕ) {net : Net} (same : net ≡ g.net) where
+  -- what goes with the root is weighed
+  pub weighed : {past after : List Bool} {going : ℕ} → WellFormed g → InUse g root → MarksPast g root past
+      → GoingWith net past root going → after ≡ past → Weighed g root after going
+  weighed ok used past goes kept = rw kept (record {
+    lawful = ok.lawful;
+    used = used;
+    past = past;
+    going_is = (rw same at goes) g.outputs ok.lawful used past;
+  })
+
+  -- and so is the gain
+  pub gain_known : (p : Proposal) {ms : List Bool} {going n : ℕ} → Weighed g root ms going → Wires root p → Gains net ms going p n
+      → n ≡ positive (gain g root p)
+  gain_known p w wires gains = (rw same at gains) g.outputs root w wires
 
 module _ (g : Graph) (root : ℕ) (p : Proposal) (b : Buffers) where
   pub nothing_gained : positive (gain g root p) ≡ 0 → Err NoGain leaving b ≡ replace_effect g root p b

@@ -1,6 +1,6 @@
 -- What is left of the rewired graph: its marks, the new numbers, and its words by them.
 -- Assumes nothing.
-use Rattle.std.specs.Prelude.{ℕ, suc, ◌+◌, ◌*◌, ◌%◌, ◌^◌, ◌<◌, ◌≡◌, Bool, false, cond, List, [], ◌∷◌, Result, Err, length, get_or}
+use Rattle.std.specs.Prelude.{ℕ, suc, ◌+◌, ◌*◌, ◌%◌, ◌^◌, ◌<◌, ◌≡◌, Bool, false, cond, List, [], ◌∷◌, Result, Err, get_or}
 use Rattle.graph.specs.Lists.{gather}
 use Rattle.graph.specs.Literal.{var_of}
 use Rattle.graph.specs.Lent.{Buffers, no_room_for, Effect, ◌leaving◌}
@@ -42,12 +42,6 @@ by_numbers ns l = 2 * get_or ns (var_of l) 0 + l % 2
 unfoldable pub kept_words : Net → List Bool → List ℕ → ℕ → List ℕ
 unfolding by_numbers first second
 kept_words net ms ns v = cond (get_or ms v false) (by_numbers ns (first net v) ∷ by_numbers ns (second net v) ∷ []) []
-
--- what putting gates asks for: a mark and a small number a variable
-pub record Putting (net : Net) (ms : List Bool) (ns : List ℕ) : Type 0 where
-  pub marks_there : last net < length ms
-  pub numbers_there : last net < length ns
-  pub small : SmallNumbers ns
 
 -- what is left of all gates
 unfoldable pub kept_gates : Net → List Bool → List ℕ → List ℕ

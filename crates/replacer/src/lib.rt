@@ -2,11 +2,12 @@
 #![tactic(auto)]
 
 mod finish;
+mod renumber;
 mod rewire;
 
 ghost use Rattle.std.specs.Prelude.{◌≡◌, ◌<◌, length};
 ghost use Rattle.graph.specs.Lent.{buffers_of, ◌leaving◌};
-ghost use Rattle.graph.specs.Graph.{last, WellFormed};
+ghost use Rattle.graph.specs.Graph.{last};
 ghost use Rattle.graph.specs.Use.{InUse};
 ghost use Rattle.checker.specs.Marks.{marks_in};
 ghost use Rattle.replacement.specs.Rewire.{Wires};
@@ -14,9 +15,10 @@ ghost use Rattle.replacement.specs.Calls.{apply_effect};
 ghost use Rattle.replacer.specs.Finishing.{KeptMarks, finish_effect, replace_effect};
 
 use checker::no_room;
-use finish::{mark_kept, put_gates, put_outputs, renumber};
-use graph::{LentGraph, MOST_VARIABLES, Refusal, Var};
+use finish::{mark_kept, put_gates, put_outputs};
+use graph::{CheckedGraph, LentGraph, MOST_VARIABLES, Refusal, Var};
 use judge::proposal_verdict;
+use renumber::Renumbering;
 use replacement::{Applied, Proposal};
 use rewire::Rewiring;
 use weigher::past::mark_past;
@@ -30,41 +32,42 @@ fn store_finished(
     words: &mut [u32],
     results: &mut [u32],
 ) -> Result<Applied, Refusal>
-    requires well_formed { WellFormed rewiring.now.graph.now }
-    requires kept_marks { KeptMarks rewiring.now.graph.now rewiring.now.root.0 rewiring.now.proposal (marks_in marks.now)
+    requires { KeptMarks rewiring.now.graph.now rewiring.now.root.0 rewiring.now.proposal (marks_in marks.now)
         × (last rewiring.now.graph.now.net < length (marks_in marks.now)) }
     ensures { result leaving buffers_of words.new results.new
         ≡ finish_effect rewiring.now.graph.now rewiring.now.root.0 rewiring.now.proposal
         (buffers_of words.old results.old) }
 {
-    let mut numbers = [0u32; MOST_VARIABLES];
-    let gates = renumber(rewiring.graph, marks, &mut numbers);
+    let net = rewiring.graph.net();
+    let renumbering = Renumbering::new(&net, marks);
+    let gates = renumbering.gates;
     let outputs = rewiring.graph.outputs().len();
     if no_room(2 * gates, outputs, words, results) {
         return Err(Refusal::NoRoom);
     }
-    put_gates(rewiring, marks, &numbers, words);
-    put_outputs(rewiring, &numbers, results);
+    put_gates(rewiring, marks, &renumbering, words);
+    put_outputs(rewiring, &renumbering, results);
     Ok(Applied { gates, outputs })
 }
 
 // Replaces a root in use by a proposal of literals below it, if that gains and there is room.
 fn replace(
-    graph: &LentGraph,
+    graph: &CheckedGraph,
     root: Var,
     proposal: Proposal,
     words: &mut [u32],
     results: &mut [u32],
 ) -> Result<Applied, Refusal>
-    requires { WellFormed graph.now × InUse graph.now root.0 × Wires root.0 proposal }
+    requires { InUse graph.now root.0 × Wires root.0 proposal }
     ensures { result leaving buffers_of words.new results.new
         ≡ replace_effect graph.now root.0 proposal (buffers_of words.old results.old) }
 {
+    let net = graph.net();
     let mut marks = [false; MOST_VARIABLES];
     let mut list = [0u32; MOST_VARIABLES];
     mark_past(graph, root, &mut marks);
-    let going = going_with(graph, root, &mut marks, &mut list);
-    if gain(graph, going, proposal, &mut marks, &mut list) == 0 {
+    let going = going_with(&net, root, &mut marks, &mut list);
+    if gain(&net, going, proposal, &mut marks, &mut list) == 0 {
         return Err(Refusal::NoGain);
     }
     let rewiring = Rewiring {
@@ -89,5 +92,5 @@ pub fn apply(
         ≡ apply_effect graph.now root.0 leaves proposal (buffers_of words.old results.old) }
 {
     proposal_verdict(graph, root, leaves, proposal)?;
-    replace(graph, root, proposal, words, results)
+    replace(&graph.checked(), root, proposal, words, results)
 }

@@ -1,24 +1,26 @@
 // What becomes of gates and literals once a proposal stands for a gate.
-ghost use Rattle.std.specs.Prelude.{◌≡◌};
-ghost use Rattle.graph.specs.Graph.{first, second, WellFormedNet, IsGate};
-ghost use Rattle.replacement.specs.Rewire.{Wires, redirected, rewired_net};
+ghost use Rattle.std.specs.Prelude.{◌≡◌, ◌<◌, ◌^◌};
+ghost use Rattle.graph.specs.Graph.{first, second, IsGate, WellFormed};
+ghost use Rattle.replacement.specs.Rewire.{Wires, redirected};
 ghost use Rattle.replacement.proofs.Rewire.{Wires-prop};
 
-use graph::{Fanins, LentGraph, Lit, Var};
+use graph::{CheckedGraph, Fanins, Lit, Var};
 use replacement::Proposal;
 
-// A gate of a well-formed net, and the proposal that is to stand for it.
+// A gate of a well-formed graph, and the proposal that is to stand for it.
 #[derive(Clone, Copy)]
 pub struct Rewiring<'a> {
-    pub graph: &'a LentGraph<'a>,
+    pub graph: &'a CheckedGraph<'a>,
     pub root: Var,
     pub proposal: Proposal,
-    ghost net_ok: { WellFormedNet graph.now.net },
     ghost gate: { IsGate graph.now.net root.0 },
+    ghost small: { root.0 < 2 ^ 30 },
     ghost wires: { Wires root.0 proposal } by { Wires-prop root.0 proposal },
 }
 
 impl<'a> Rewiring<'a> {
+    ghost use Rattle.replacer.specs.Rewiring.{net_after};
+
     pub fn redirected(&self, l: Lit) -> Lit
         ensures { result.0 ≡ redirected self.now.root.0 self.now.proposal l.0 }
     {
@@ -28,10 +30,11 @@ impl<'a> Rewiring<'a> {
     // What stands for v's gate.
     pub fn gate_of(&self, v: Var) -> Fanins
         requires { IsGate self.now.graph.now.net v.0 }
-        ensures first_value { result.first.0 ≡ first (rewired_net self.now.graph.now.net self.now.root.0 self.now.proposal) v.0 }
-        ensures second_value { result.second.0 ≡ second (rewired_net self.now.graph.now.net self.now.root.0 self.now.proposal) v.0 }
+        ensures first_value { result.first.0 ≡ first (net_after self.now) v.0 }
+        ensures second_value { result.second.0 ≡ second (net_after self.now) v.0 }
+        ensures well_formed { WellFormed self.now.graph.now }
     {
-        let gate = self.graph.fanins_of(v);
+        let gate = self.graph.net().fanins_of(v);
         if v != self.root {
             return Fanins::larger_first(self.redirected(gate.first), self.redirected(gate.second));
         }

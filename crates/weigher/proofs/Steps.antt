@@ -1,6 +1,6 @@
 -- Gates are listed and marked one after another: each step keeps what stood before it, and the marks can be taken off again.
 -- Assumes nothing.
-use mathlib.Core.Path.{◌≡◌, refl, sym, ap, ap₂, ◌∙◌, subst}
+use mathlib.Core.Path.{◌≡◌, refl, sym, ap, ◌∙◌, subst}
 use mathlib.Core.Bool.{Bool, true, false, cond, false≢true}
 use mathlib.Core.List.{List, [], ◌∷◌, ◌++◌}
 use mathlib.Core.Logic.{◌⊎◌, inl, inr, ⊎_elim}
@@ -160,10 +160,10 @@ module _ (inputs : ℕ) (s : Walked) where
   pub few_held : (v : ℕ) {t : Walked} → t ≡ held inputs v s → t.count ≤ suc s.count
   few_held v e = rw e (held_few inputs v s)
 
-  -- one step after the other, where the two variables have other names too
-  pub two_held : {x y a b : ℕ} {t r : Walked} → t ≡ held inputs x s → r ≡ held inputs y t → x ≡ a → y ≡ b
+  -- one step after the other, where the inputs and the two variables have other names too
+  pub two_held : {i x y a b : ℕ} {t r : Walked} → t ≡ held i x s → r ≡ held i y t → i ≡ inputs → x ≡ a → y ≡ b
       → r ≡ held inputs b (held inputs a s)
-  two_held e f p q = f ∙ ap₂ (held inputs) q (e ∙ ap (λ (v : ℕ). held inputs v s) p)
+  two_held e f n p q = rw (f, e, n, p, q)
 
 -- ---- what is listed: gates that had no mark, that literals reach, as many as marks came
 

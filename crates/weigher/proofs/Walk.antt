@@ -143,16 +143,13 @@ stage_holding net ls ms done s st =
 
 -- ---- the walk at its end: `done` are all that are listed
 
--- all of the first r in the list are listed gates
+-- the first r in the list are listed
 module _ (net : Net) (ls : List ℕ) (ms : List Bool) (list : List ℕ) (r : ℕ) (walk : Holding net ls ms (take r list) r) where
   pub listed_fit : r ≤ length list
   listed_fit = omega (arith, walk.done_within, length-take r list)
 
   pub listed_all : length (take r list) ≡ r
   listed_all = length-take-le r list listed_fit
-
-  pub listed_gate : (j : ℕ) → j < r → IsGate net (get_or list j 0)
-  listed_gate j h = subst (IsGate net) (get_or-take r list j 0 h) (walk.gates j (omega (arith, listed_all)))
 
 module _ (net : Net) (ls : List ℕ) (ms : List Bool) (vs : List ℕ) (ok : Lawful (over net [])) (top : ℕ) (closed : ClosedTo net top ms)
     (low : (j : ℕ) → j < length ls → var_of (get_or ls j 0) ≤ top) (done : ℕ) (all : length vs ≤ done)

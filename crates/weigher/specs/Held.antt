@@ -2,7 +2,7 @@
 -- Assumes nothing.
 use Rattle.std.specs.Prelude.{ℕ, suc, ◌≤◌, ◌<◌, ◌≡◌, Bool, true, false, not, ◌&&◌, List, [], ◌∷◌, ltb, length, get_or, set}
 use Rattle.graph.specs.Literal.{var_of}
-use Rattle.graph.specs.Graph.{Net, over, size, last, first, second, IsGate, WellFormedNet}
+use Rattle.graph.specs.Graph.{Net, over, size, last, first, second, IsGate}
 use Rattle.graph.specs.Use.{Reached}
 use Rattle.replacement.specs.Vanish.{count_apart, held_from}
 
@@ -49,9 +49,9 @@ pub record Holding (net : Net) (ls : List ℕ) (ms : List Bool) (vs : List ℕ) 
   pub firsts_marked : (j : ℕ) → j < done → GateMarked net (set_each true vs ms) (var_of (first net (get_or vs j 0)))
   pub seconds_marked : (j : ℕ) → j < done → GateMarked net (set_each true vs ms) (var_of (second net (get_or vs j 0)))
 
--- what a walk asks for: a well-formed net, a mark a variable, and a list with two places more than there are gates
-abbrev pub Walkable : Net → List Bool → List ℕ → Type 0
-Walkable net ms list = WellFormedNet net × (last net < length ms) × (suc (size net) < length list)
+-- the room that a walk asks for: a mark a variable, and a list with two places more than there are gates
+abbrev pub WalkRoom : Net → List Bool → List ℕ → Type 0
+WalkRoom net ms list = (last net < length ms) × (suc (size net) < length list)
 
 -- a marked gate up to `top` has marked fanin gates: what is reached from it needs no visit
 pub record ClosedTo (net : Net) (top : ℕ) (ms : List Bool) : Type 0 where

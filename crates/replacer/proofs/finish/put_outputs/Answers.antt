@@ -8,8 +8,10 @@ use native.Mathlib.Omega.{arith}
 use lib.ListN.{length, set, length-map}
 use lib.Seq.{take_all}
 use Rattle.graph.specs.Lent.{written}
+use Rattle.graph.proofs.Graph.{sinks_below}
 use Rattle.graph.proofs.Members.{map_at}
 use Rattle.graph.proofs.Lent.{written_more}
+use Rattle.checker.proofs.Marking.{most_variables}
 use Rattle.replacer.specs.Finishing.{by_numbers}
 use Rattle.replacer.proofs.Kept.{redirected_below}
 use Rattle.replacer.proofs.finish.put_outputs.Invariants.{word}
@@ -21,31 +23,31 @@ loop-k-init c = refl
 
 pub renumbered-requires : goal.renumbered-requires
 renumbered-requires c =
-    let a = c.args.rewiring.now in
-    let (below, small) = c.requires.literals_below in
-    let lower = rw (← c.outputs-outputs.ensures) at below in
-    let redirected = redirected_below a.root.0 a.proposal a.wires c.outputs-outputs.result.now (length c.args.numbers.now) lower c.loop-k.k (omega arith) in
-    (omega (arith, redirected, c.redirected-l.ensures), small)
+    let r = c.args.rewiring.now in
+    let ok = c.outputs-outputs.ensures.well_formed in
+    let below = sinks_below r.graph.now ok.lawful most_variables (omega arith) in
+    let moved = redirected_below r.root.0 r.proposal r.wires _ most_variables (rw (← c.outputs-outputs.ensures.value) at below) c.loop-k.k (omega arith) in
+    omega (arith, moved, c.redirected-l.ensures)
 
 pub loop-k-preserved : goal.loop-k-preserved
 loop-k-preserved c =
-    let a = c.args.rewiring.now in
-    let new = word a.root.0 a.proposal c.args.numbers.now in
+    let r = c.args.rewiring.now in
+    let new = word r.root.0 r.proposal c.args.renumbering.now.numbers in
     let outs = c.outputs-outputs.result.now in
     let k = c.loop-k.k in
     let found =
     c.renumbered.ensures
-    ∙ ap (by_numbers c.args.numbers.now) c.redirected-l.ensures
+    ∙ ap (by_numbers c.args.renumbering.now.numbers) c.redirected-l.ensures
     ∙ sym (map_at new 0 0 outs k (omega arith)) in
-    let fits : length outs ≤ length c.args.results.now = rw c.outputs-outputs.ensures c.requires.outputs_in_bounds in
+    let fits : length outs ≤ length c.args.results.now = rw c.outputs-outputs.ensures.value c.requires in
     ap₂ (λ (ws : List ℕ) (w : ℕ). set ws k w) c.loop-k.invariant found
     ∙ written_more (map new outs) c.args.results.now k (omega (arith, length-map outs new)) (omega (arith, length-map outs new))
 
 pub returns : goal.returns
 returns c =
-    let a = c.args.rewiring.now in
-    let new = word a.root.0 a.proposal c.args.numbers.now in
+    let r = c.args.rewiring.now in
+    let new = word r.root.0 r.proposal c.args.renumbering.now.numbers in
     let outs = c.outputs-outputs.result.now in
     c.loop-k.invariant
     ∙ ap (λ (ws : List ℕ). written ws c.args.results.now)
-    (take_all c.loop-k.k (map new outs) (omega (arith, length-map outs new)) ∙ ap (map new) c.outputs-outputs.ensures)
+    (take_all c.loop-k.k (map new outs) (omega (arith, length-map outs new)) ∙ ap (map new) c.outputs-outputs.ensures.value)

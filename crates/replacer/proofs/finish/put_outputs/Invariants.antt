@@ -1,4 +1,4 @@
--- What the loop keeps, and how far it has to go.
+-- What the loop keeps.
 use mathlib.Core.Path.{◌≡◌}
 use mathlib.Core.List.{List, map}
 use Prim.Native.Nat.{ℕ}
@@ -15,4 +15,4 @@ word root p ns l = by_numbers ns (redirected root p l)
 
 abbrev pub invariant-loop-k : goal.invariant-loop-k
 invariant-loop-k l =
-    l.results ≡ written (take l.k (map (word l.rewiring.root.0 l.rewiring.proposal l.numbers) l.outputs)) l.initial.results
+    l.results ≡ written (take l.k (map (word l.rewiring.root.0 l.rewiring.proposal l.renumbering.numbers) l.outputs)) l.initial.results

@@ -37,6 +37,6 @@ returns c =
     let within = both_within _ _ _ c.requires.first_bound.0 c.requires.first_bound.1 in
     record {
       counts_held = λ top closed low.
-          sym all ∙ walk_counts _ _ _ vs c.requires.walkable.0.lawful top closed low r (omega arith) walk within;
+          sym all ∙ walk_counts _ _ _ vs c.mark_reached-count.ensures.well_formed.lawful top closed low r (omega arith) walk within;
       marks_unchanged = c.unmark.ensures ∙ ap (set_each false vs) marked ∙ set_each_undone vs _ walk.had_none;
     }

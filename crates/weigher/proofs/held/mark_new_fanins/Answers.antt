@@ -10,12 +10,12 @@ use Rattle.weigher.proofs.held.mark_new_fanins.Goals as goal
 
 pub mark_new-with_first-requires : goal.mark_new-with_first-requires
 mark_new-with_first-requires c =
-    let lower = first_lower _ c.requires.0.lawful c.args.v.0 c.requires.1 in
+    let lower = first_lower _ c.fanins_of-gate.ensures.well_formed.lawful c.args.v.0 c.requires.0 in
     (omega (arith, c.var.ensures, c.fanins_of-gate.ensures.first_value), omega arith)
 
 pub mark_new-requires : goal.mark_new-requires
 mark_new-requires c =
-    let lower = second_lower _ c.requires.0.lawful c.args.v.0 c.requires.1 in (
+    let lower = second_lower _ c.fanins_of-gate.ensures.well_formed.lawful c.args.v.0 c.requires.0 in (
       omega (
         arith,
         c.var-2.ensures,
@@ -28,6 +28,6 @@ mark_new-requires c =
 
 pub returns : goal.returns
 returns c =
-    let first-is = c.var.ensures ∙ ap var_of c.fanins_of-gate.ensures.first_value in
+    let first_is = c.var.ensures ∙ ap var_of c.fanins_of-gate.ensures.first_value in
     let second_is = c.var-2.ensures ∙ ap var_of c.fanins_of-gate.ensures.second_value in
-    two_held _ _ c.mark_new-with_first.ensures c.mark_new.ensures first-is second_is
+    two_held _ _ c.mark_new-with_first.ensures c.mark_new.ensures c.inputs-inputs.ensures.value first_is second_is

@@ -7,7 +7,7 @@ use Rattle.weigher.proofs.weigh.going_with.Goals as goal
 pub returns : goal.returns
 returns c =
     record {
-      going_with = going_counted c.args.graph.now.net (marks_in c.args.marks.now) c.args.root.0 _
+      going_with = going_counted c.args.net.now (marks_in c.args.marks.now) c.args.root.0 _
           c.plain.ensures c.held_back.ensures.counts_held;
       marks_unchanged = c.held_back.ensures.marks_unchanged;
     }

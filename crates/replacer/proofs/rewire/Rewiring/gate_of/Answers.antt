@@ -23,35 +23,37 @@ together a b p q = denial_off (eqb a b) (eqb_iff a b) (sym p ∙ q)
 
 pub returns-then-ne : goal.returns-then-ne
 returns-then-ne c =
-    let a = c.args in
-    let moved = redirected a.self.now.root.0 a.self.now.proposal in
-    let both = over (other_gate a.self.now.graph.now.net a.self.now.root.0 a.self.now.proposal a.v.0 c.requires (apart _ _ c.ne.ensures c.if-ne.true))
-    (c.redirected.ensures ∙ ap moved c.fanins_of-gate.ensures.first_value)
-    (c.redirected-then-ne.ensures ∙ ap moved c.fanins_of-gate.ensures.second_value)
+    let r = c.args.self.now in
+    let moved = redirected r.root.0 r.proposal in
+    let words = rw c.net.ensures.value at c.fanins_of-gate.ensures in
+    let both = over (other_gate r.graph.now.net r.root.0 r.proposal c.args.v.0 c.requires (apart _ _ c.ne.ensures c.if-ne.true))
+    (c.redirected.ensures ∙ ap moved words.first_value)
+    (c.redirected-then-ne.ensures ∙ ap moved words.second_value)
     c.larger_first.ensures.first_value
     c.larger_first.ensures.second_value in
-    record { first_value = both.0; second_value = both.1 }
+    record { first_value = both.0; second_value = both.1; well_formed = c.net.ensures.well_formed }
 
 pub returns-then-self-eq0 : goal.returns-then-self-eq0
 returns-then-self-eq0 c =
-    let a = c.args in
-    let net = a.self.now.graph.now.net in
-    let is_root = together a.v.0 a.self.now.root.0 c.ne.ensures c.if-ne.false in
-    let both = over (literal_root net a.self.now.root.0 a.self.now.proposal a.v.0 c.requires is_root c.if-self-eq0.true)
-    (c.fanins_of-gate.ensures.first_value ∙ ap (first net) is_root)
-    (c.fanins_of-gate.ensures.second_value ∙ ap (second net) is_root)
+    let r = c.args.self.now in
+    let net = r.graph.now.net in
+    let words = rw c.net.ensures.value at c.fanins_of-gate.ensures in
+    let is_root = together c.args.v.0 r.root.0 c.ne.ensures c.if-ne.false in
+    let both = over (literal_root net r.root.0 r.proposal c.args.v.0 c.requires is_root c.if-self-eq0.true)
+    (words.first_value ∙ ap (first net) is_root)
+    (words.second_value ∙ ap (second net) is_root)
     c.larger_first-then-self-eq0.ensures.first_value
     c.larger_first-then-self-eq0.ensures.second_value in
-    record { first_value = both.0; second_value = both.1 }
+    record { first_value = both.0; second_value = both.1; well_formed = c.net.ensures.well_formed }
 
 pub returns : goal.returns
 returns c =
-    let a = c.args in
-    let kind = (and_kind a.self.now.root.0 a.self.now.proposal a.self.now.wires c.if-self-eq0.false).0 in
-    let is_root = together a.v.0 a.self.now.root.0 c.ne.ensures c.if-ne.false in
-    let both = over (and_root a.self.now.graph.now.net a.self.now.root.0 a.self.now.proposal a.v.0 c.requires is_root kind)
+    let r = c.args.self.now in
+    let kind = (and_kind r.root.0 r.proposal r.wires c.if-self-eq0.false).0 in
+    let is_root = together c.args.v.0 r.root.0 c.ne.ensures c.if-ne.false in
+    let both = over (and_root r.graph.now.net r.root.0 r.proposal c.args.v.0 c.requires is_root kind)
     refl
     refl
     c.larger_first-2.ensures.first_value
     c.larger_first-2.ensures.second_value in
-    record { first_value = both.0; second_value = both.1 }
+    record { first_value = both.0; second_value = both.1; well_formed = c.net.ensures.well_formed }
