@@ -45,11 +45,11 @@ covered_literal : (covers : List Bool) (l : ℕ) → var_of l < length covers �
 covered_literal covers l h = literal_covered covers l ∙ get_d_inside covers (var_of l) true false h
 
 module _ {net : Net} {next : NextLeaf} {v : ℕ} (s : Sweeping net next v) where
-  pub fanins_below : free net < v → (var_of (first net v) < v) × (var_of (second net v) < v)
-  fanins_below h =
+  pub fanins_below : WellFormedNet net → free net < v → (var_of (first net v) < v) × (var_of (second net v) < v)
+  fanins_below ok h =
       let gate : IsGate net v = record { above = h; within = s.within } in
-      let low = s.net_ok.lawful.below v gate in
-      let order = s.net_ok.lawful.ordered v gate in
+      let low = ok.lawful.below v gate in
+      let order = ok.lawful.ordered v gate in
       (omega arith, omega arith)
 
   module _ (leaf : next_is next v ≡ true) where
@@ -68,7 +68,7 @@ module _ {net : Net} {next : NextLeaf} {v : ℕ} (s : Sweeping net next v) where
     covered_input h x = rw (covered_ahead, other, le-leb v (free net) h)
 
     -- the code reads the two at places a and b, and the second only where the first is covered
-    module _ (h : free net < v) (covers : List Bool) where
+    module _ (ok : WellFormedNet net) (h : free net < v) (covers : List Bool) where
       covered_gate : v ≤ length covers
           → Option.get_or (covered_ahead net next v) (by_gate coverage net v covers)
           ≡ get_or covers (var_of (first net v)) false && get_or covers (var_of (second net v)) false
@@ -77,8 +77,8 @@ module _ {net : Net} {next : NextLeaf} {v : ℕ} (s : Sweeping net next v) where
           rw (covered_ahead, other, lt-leb v (free net) h)
           (by_gate_gate coverage net v covers h
           ∙ ap₂ ◌&&◌
-          (covered_literal covers (first net v) (omega (arith, fanins_below h)))
-          (covered_literal covers (second net v) (omega (arith, fanins_below h))))
+          (covered_literal covers (first net v) (omega (arith, fanins_below ok h)))
+          (covered_literal covers (second net v) (omega (arith, fanins_below ok h))))
 
       module _ {a : ℕ} (room : v ≤ length covers) (p : a ≡ var_of (first net v)) where
         pub covered_both : {b : ℕ} → b ≡ var_of (second net v) → get_or covers a false ≡ true
@@ -110,7 +110,6 @@ front_over xs lent x h = ap (λ (rest : List _). xs ++ rest) (drop-set-lt (lengt
 -- a sweep of a lent list up to the root that has come to variable n, and the next leaf
 pub record Sweep {A : Type 0} (K : Algebra A) (own : ℕ → Option A) (net : Net) (w : Leaves) (root : ℕ) (lent list : List A)
     (next : NextLeaf) (n : ℕ) : Type 0 where
-  pub net_ok : WellFormedNet net
   pub known : root ≤ last net
   pub room : root < length lent
   pub within : n ≤ root
@@ -119,14 +118,13 @@ pub record Sweep {A : Type 0} (K : Algebra A) (own : ℕ → Option A) (net : Ne
 
 module _ {A : Type 0} {K : Algebra A} {own : ℕ → Option A} {net : Net} {w : Leaves} {root : ℕ} where
   module _ (lent : List A) (x : A) where
-    pub sweep_none : x ≡ K.no → WellFormedNet net × (root ≤ last net) → WellSet root w × (root < length lent)
+    pub sweep_none : x ≡ K.no → (root ≤ last net) × (root < length lent) → WellSet root w
         → {next : NextLeaf}
         → next.place ≡ 0
         → option_map (λ (u : Var). u.0) next.leaf ≡ slice_get (leaf_list w) 0
         → Sweep K own net w root (set lent 0 x) (set lent 0 x) next 0
-    sweep_none e (ok, known) (well, room) p q =
+    sweep_none e (known, room) well p q =
         record {
-          net_ok = ok;
           known = known;
           room = simp length-set (omega arith);
           within = omega arith;
@@ -152,25 +150,23 @@ module _ {A : Type 0} {K : Algebra A} {own : ℕ → Option A} {net : Net} {w : 
 
     module _ (h : n < root) where
       pub sweep_next : Sweeping net next (n + 1)
-      sweep_next =
-          record { net_ok = s.net_ok; within = omega arith; place_ok = place_below_limit sweep_ahead }
+      sweep_next = record { within = omega arith; place_ok = place_below_limit sweep_ahead }
 
       -- what the next variable has is set down at its place; o is what it has itself, by the next leaf
-      pub sweep_more : (x : A) {o : Option A} {at : ℕ} {after : NextLeaf} → x ≡ Option.get_or o (by_gate K net (n + 1) list)
+      pub sweep_more : WellFormedNet net → (x : A) {o : Option A} {at : ℕ} {after : NextLeaf} → x ≡ Option.get_or o (by_gate K net (n + 1) list)
           → o ≡ own (n + 1)
           → at ≡ n + 1
           → Ahead w (suc (n + 1)) after
           → Sweep K own net w root lent (set list at x) after (n + 1)
-      sweep_more x {at} e o_is q a =
+      sweep_more ok x {at} e o_is q a =
           let is : x ≡ Option.get_or (own (suc n)) (by_gate K net (suc n) (Swept K own net lent n)) =
           rw (o_is, add-one n, s.swept) at e in
           record {
-            net_ok = s.net_ok;
             known = s.known;
             room = s.room;
             within = omega arith;
             ahead = a;
-            swept = rw (q, add-one n, s.swept) (swept_more K own net lent s.net_ok n x (omega arith) (omega arith) is);
+            swept = rw (q, add-one n, s.swept) (swept_more K own net lent ok n x (omega arith) (omega arith) is);
           }
 
 -- ---- what the sweeps leave

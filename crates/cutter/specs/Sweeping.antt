@@ -5,7 +5,7 @@ use Rattle.std.specs.Option.{option_map}
 use Rattle.std.proofs.Math.Option.{Option, none, some}
 use Rattle.graph.specs.declared.lit.Var.{Var}
 use Rattle.graph.specs.Lists.{gather, keep}
-use Rattle.graph.specs.Graph.{Net, free, last, WellFormedNet}
+use Rattle.graph.specs.Graph.{Net, free, last}
 use Rattle.window.specs.declared.leaf_set.Leaves.{Leaves}
 use Rattle.window.specs.Leaves.{leaf_limit, leaf_list}
 use Rattle.window.specs.Table.{leaf_pattern}
@@ -30,7 +30,6 @@ next_is next v = elim next.leaf [ None ↦ false | Some leaf ↦ eqb leaf.0 v ]
 
 -- v is a variable of the net, and where it is the next leaf, that has one of the six places
 pub record Sweeping (net : Net) (next : NextLeaf) (v : ℕ) : Type 0 where
-  pub net_ok : WellFormedNet net
   pub within : v ≤ last net
   pub place_ok : next_is next v ≡ true → next.place < leaf_limit
 

@@ -9,8 +9,9 @@ use Rattle.cutter.proofs.cover.cover.Goals as goal
 pub loop-n-init : goal.loop-n-init
 unfolding coverage
 loop-n-init c =
+    let window = c.args.window.now in
     let next = c.at-next.ensures in
-    sweep_none c.args.covers.now true refl c.requires.well_formed_net c.requires.well_set next.place_value next.leaf_value
+    sweep_none c.args.covers.now true refl (window.within, c.requires) window.well_set next.place_value next.leaf_value
 
 pub is_covered-requires : goal.is_covered-requires
 is_covered-requires c =
@@ -20,7 +21,7 @@ is_covered-requires c =
 pub loop-n-preserved : goal.loop-n-preserved
 loop-n-preserved c =
     let i = c.loop-n.invariant in
-    sweep_more i (omega arith) _ c.is_covered.ensures (covered_ahead_lem (sweep_ahead i) _) c.at.ensures c.past-next.ensures
+    sweep_more i (omega arith) c.args.window.now.net_ok _ c.is_covered.ensures (covered_ahead_lem (sweep_ahead i) _) c.at.ensures c.past-next.ensures
 
 pub returns : goal.returns
 unfolding covered_up_to

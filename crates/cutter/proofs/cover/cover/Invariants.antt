@@ -5,4 +5,4 @@ use Rattle.cutter.proofs.cover.cover.Given as goal
 
 abbrev pub invariant-loop-n : goal.invariant-loop-n
 invariant-loop-n l =
-    Sweep coverage (covered_own l.graph.net l.leaves) l.graph.net l.leaves l.n-end l.initial.covers l.covers l.next l.n
+    Sweep coverage (covered_own l.window.net.now l.window.leaves) l.window.net.now l.window.leaves l.n-end l.initial.covers l.covers l.next l.n

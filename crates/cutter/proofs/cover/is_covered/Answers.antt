@@ -14,13 +14,13 @@ returns-then-at-inputs c = sym (covered_input c.requires.0 (sym c.is.ensures ∙
 
 pub returns-then-covers-at : goal.returns-then-covers-at
 returns-then-covers-at c =
-    let net = c.args.graph.now.net in
+    let net = c.args.window.now.net.now in
     let first_at : c.at-2.result ≡ var_of (first net c.args.v.0) = cc in
     let second_at : c.at-then-covers-at.result ≡ var_of (second net c.args.v.0) = cc in
-    sym (covered_both c.requires.0 (sym c.is.ensures ∙ c.if-is.false) (omega arith) c.args.covers.now c.requires.1 first_at second_at c.if-covers-at.true)
+    sym (covered_both c.requires.0 (sym c.is.ensures ∙ c.if-is.false) c.args.window.now.net_ok (omega arith) c.args.covers.now c.requires.1 first_at second_at c.if-covers-at.true)
 
 pub returns-else-covers-at : goal.returns-else-covers-at
 returns-else-covers-at c =
-    let net = c.args.graph.now.net in
+    let net = c.args.window.now.net.now in
     let first_at : c.at-2.result ≡ var_of (first net c.args.v.0) = cc in
-    c.if-covers-at.false ∙ sym (covered_not c.requires.0 (sym c.is.ensures ∙ c.if-is.false) (omega arith) c.args.covers.now c.requires.1 first_at c.if-covers-at.false)
+    c.if-covers-at.false ∙ sym (covered_not c.requires.0 (sym c.is.ensures ∙ c.if-is.false) c.args.window.now.net_ok (omega arith) c.args.covers.now c.requires.1 first_at c.if-covers-at.false)

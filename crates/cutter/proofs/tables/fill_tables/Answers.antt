@@ -17,11 +17,12 @@ refilled {net} {w} {root} {lent} {next} {n} e s = subst⁻¹ (λ (ts : List ℕ)
 
 pub loop-n-init : goal.loop-n-init
 loop-n-init c =
+    let window = c.args.window.now in
     let zero = c.zero in
     let next = c.at-next in
-    let none = sweep_none c.args.tables.now zero.result.0 zero.ensures c.requires.well_formed_net c.requires.well_set
+    let none = sweep_none c.args.tables.now zero.result.0 zero.ensures (window.within, c.requires) window.well_set
     next.ensures.place_value next.ensures.leaf_value in
-    subst⁻¹ (λ (ts : List ℕ). Filled c.args.graph.now.net c.args.leaves c.args.root.0 ts ts next.result 0) c.set_table.ensures none
+    subst⁻¹ (λ (ts : List ℕ). Filled window.net.now window.leaves window.root.0 ts ts next.result 0) c.set_table.ensures none
 
 pub variable_table-t-requires : goal.variable_table-t-requires
 variable_table-t-requires c =
@@ -32,11 +33,12 @@ pub loop-n-preserved : goal.loop-n-preserved
 loop-n-preserved c =
     let i = c.loop-n.invariant in
     refilled c.set_table-in-loop-n.ensures
-    (sweep_more i (omega arith) _ c.variable_table-t.ensures (table_ahead_lem (sweep_ahead i)) refl c.past-next.ensures)
+    (sweep_more i (omega arith) c.args.window.now.net_ok _ c.variable_table-t.ensures (table_ahead_lem (sweep_ahead i)) refl c.past-next.ensures)
 
 pub returns : goal.returns
 unfolding words_up_to
 returns c =
+    let window = c.args.window.now in
     let l = c.loop-n in
-    let whole = subst (λ (ts : List ℕ). Filled c.args.graph.now.net c.args.leaves c.args.root.0 ts l.tables l.next l.n) c.set_table.ensures l.invariant in
+    let whole = subst (λ (ts : List ℕ). Filled window.net.now window.leaves window.root.0 ts l.tables l.next l.n) c.set_table.ensures l.invariant in
     sweep_all c.args.tables.now c.zero.result.0 whole (omega arith)

@@ -12,4 +12,4 @@ abbrev pub Filled : Net → Leaves → ℕ → List ℕ → List ℕ → NextLea
 Filled net w root lent list next n = Sweep words (leaf_own w leaf_pattern) net w root lent list next n
 
 abbrev pub invariant-loop-n : goal.invariant-loop-n
-invariant-loop-n l = Filled l.graph.net l.leaves l.n-end l.initial.tables l.tables l.next l.n
+invariant-loop-n l = Filled l.window.net.now l.window.leaves l.n-end l.initial.tables l.tables l.next l.n
