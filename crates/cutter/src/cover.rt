@@ -1,42 +1,60 @@
-// Which variables are covered, in one ascending sweep up to the root. Each function asks for what its callers have proved.
+// Which variables are covered, up to a window's root.
 ghost use Rattle.std.specs.Prelude.{◌≡◌, ◌<◌, ◌≤◌, length};
-ghost use Rattle.std.proofs.Math.Option.{get_or};
 ghost use Rattle.graph.specs.Lent.{written};
-ghost use Rattle.graph.specs.Sweep.{by_gate};
-ghost use Rattle.window.specs.Local.{coverage, covered_up_to, covered};
-ghost use Rattle.cutter.specs.Sweeping.{Sweeping, covered_ahead, covered_in};
+ghost use Rattle.window.specs.Local.{covered_up_to, covered};
+ghost use Rattle.cutter.specs.Sweeping.{covered_in};
 
-use crate::next_leaf::NextLeaf;
-use graph::{MOST_VARIABLES, Var};
+use crate::sweep::{Swept, sweep};
+use graph::{Algebra, MOST_VARIABLES, Var};
 use window::LeafWindow;
 
-// Variable v is covered, where `covers` says it of those below it.
-fn is_covered(window: &LeafWindow, covers: &[bool], v: Var, next: NextLeaf) -> bool
-    requires { Sweeping window.now.net.now next v.0 × (v.0 ≤ length covers.now) }
-    ensures { result ≡ get_or (covered_ahead window.now.net.now next v.0) (by_gate coverage window.now.net.now v.0 covers.now) }
-{
-    if next.is(v) {
-        return true;
+// Coverage is a sweep in which leaves are covered, and inputs that are none are not.
+struct Coverage;
+
+#[tactic(auto, unfolding(window::specs::Local::coverage))]
+impl Algebra for Coverage {
+    ghost use Rattle.window.specs.Local.{coverage};
+
+    type Value = bool;
+
+    ghost ops = { coverage };
+
+    fn no() -> bool {
+        true
     }
-    if v.at() <= window.net.inputs() {
-        return false;
+
+    fn and(a: bool, b: bool) -> bool {
+        a & b
     }
-    let gate = window.net.fanins_of(v);
-    covers[gate.first.var().at()] && covers[gate.second.var().at()]
+
+    fn complement(a: bool) -> bool {
+        a
+    }
+}
+
+impl Swept for Coverage {
+    ghost use Rattle.std.specs.Prelude.{true, false};
+
+    ghost at_leaf = { λ place. true };
+
+    ghost at_input = { false };
+
+    fn leaf(_place: usize) -> bool {
+        true
+    }
+
+    fn input() -> bool {
+        false
+    }
 }
 
 // Which of the variables 0 to the root are covered stands at the front of `covers`.
+#[tactic(auto, using(crate::proofs::Sweeping::covered_swept))]
 pub fn cover(window: &LeafWindow, covers: &mut [bool])
     requires { window.now.root.0 < length covers.old }
     ensures { covers.new ≡ written (covered_up_to window.now.net.now window.now.leaves window.now.root.0) covers.old }
 {
-    covers[0] = true;
-    let mut next = NextLeaf::at(window.leaves, 0);
-    for n in 0..window.root.0 {
-        let v = Var(n + 1);
-        covers[v.at()] = is_covered(window, covers, v, next);
-        next = next.past(window.leaves, v);
-    }
+    sweep::<Coverage>(window, covers);
 }
 
 // The leaves cut the root: it is covered.

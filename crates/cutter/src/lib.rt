@@ -5,6 +5,7 @@
 pub mod cover;
 mod next_leaf;
 pub mod rule;
+mod sweep;
 pub mod tables;
 pub mod verdict;
 
