@@ -1,37 +1,35 @@
 -- Laws of the sweeps over a window: what a variable has, the lent list so far, and the covered variables listed.
 -- Assumes nothing.
 use mathlib.Core.Path.{◌≡◌, refl, sym, ap, ap₂, ◌∙◌}
-use mathlib.Core.Bool.{Bool, true, false, cond, ◌&&◌}
+use mathlib.Core.Bool.{Bool, true, false, cond}
 use mathlib.Core.List.{List, [], ◌∷◌, ◌++◌, append-nil}
 use mathlib.Core.Option
-use mathlib.Core.Option.{Option}
+use mathlib.Core.Option.{Option, none, some}
 use Prim.Native.Nat.{ℕ, zero, suc, ◌+◌, ◌≤◌, ◌<◌}
 use native.Mathlib.Nat.{le_refl, le_of_suc-le-suc, not-suc-le-zero}
 use native.Mathlib.Numerals.{add-one}
 use native.Mathlib.Omega.{arith}
-use borrow.Author.Tests.{le-leb, lt-leb}
+use borrow.Author.Tests.{leb-true, le-leb, lt-leb}
+use lib.Dec.{leb}
 use lib.ListN.{length, get_or, set, length-append, length-set}
-use lib.Seq.{drop-set-lt}
 use Rattle.std.specs.Prelude.{slice_get}
 use Rattle.std.specs.Option.{option_map}
 use Rattle.graph.specs.declared.lit.Var.{Var}
 use Rattle.graph.specs.Lists.{gather, keep}
-use Rattle.graph.specs.Literal.{var_of}
 use Rattle.graph.specs.Lent.{written}
-use Rattle.graph.specs.Graph.{Net, free, last, first, second, IsGate, WellFormedNet}
-use Rattle.graph.specs.Sweep.{Algebra, lit_value, by_gate, values}
+use Rattle.graph.specs.Graph.{Net, free, last, WellFormedNet}
+use Rattle.graph.specs.Sweep.{Algebra, by_gate, values}
 use Rattle.graph.proofs.Lists.{keep_append}
-use Rattle.graph.proofs.Sweep.{values_length, values_at, by_gate_free, by_gate_gate}
-use Rattle.graph.proofs.Swept.{written_at, written_length, written_next, Swept, swept_length, swept_zero, swept_more}
+use Rattle.graph.proofs.Sweep.{values_length, values_at, by_gate_free}
+use Rattle.graph.proofs.Swept.{written_at, written_length, written_next, Swept, swept_length, swept_zero, swept_more, written_over}
 use Rattle.window.specs.declared.leaf_set.Leaves.{Leaves}
-use Rattle.window.specs.Leaves.{leaf_list, WellSet}
+use Rattle.window.specs.Leaves.{leaf_list, leaf_place, WellSet}
 use Rattle.window.specs.Local.{coverage, covered_own, covered_up_to, covered, covered_below, leaf_own}
 use Rattle.window.specs.Table.{words, leaf_pattern, words_up_to, table}
-use Rattle.window.proofs.Local.{literal_covered}
 use Rattle.window.proofs.TableLaws.{words_are_tables}
 use Rattle.cutter.specs.declared.next_leaf.NextLeaf.{NextLeaf}
-use Rattle.cutter.specs.Sweeping.{Ahead, Sweeping, next_is, covered_ahead, table_ahead, covered_in}
-use Rattle.cutter.proofs.Passed.{ahead_none, place_below_limit}
+use Rattle.cutter.specs.Sweeping.{Ahead, Sweeping, next_is, window_own, own_ahead, swept_up_to, covered_in}
+use Rattle.cutter.proofs.Passed.{ahead_none, place_below_limit, ahead_is}
 
 -- inside the list the default is not asked for
 get_d_inside : {A : Type 0} (xs : List A) (k : ℕ) (d e : A) → k < length xs → get_or xs k d ≡ get_or xs k e
@@ -39,141 +37,117 @@ get_d_inside [] k d e h = absurd (not-suc-le-zero h)
 get_d_inside (x ∷ xs) zero d e h = refl
 get_d_inside (x ∷ xs) (suc k) d e h = get_d_inside xs k d e (le_of_suc-le-suc h)
 
--- ---- what a variable has, where the lent list has what those below it have
+-- ---- what a variable has, by the next leaf
 
-covered_literal : (covers : List Bool) (l : ℕ) → var_of l < length covers → lit_value coverage covers l ≡ get_or covers (var_of l) false
-covered_literal covers l h = literal_covered covers l ∙ get_d_inside covers (var_of l) true false h
+module _ {A : Type 0} (at_leaf : ℕ → A) (at_input : A) (net : Net) (next : NextLeaf) (v : ℕ) where
+  -- a leaf has its own, whatever its gate gives
+  pub leaf_has : next_is next v ≡ true → (x : A) → Option.get_or (own_ahead at_leaf at_input net next v) x ≡ at_leaf next.place
+  unfolding own_ahead
+  leaf_has is x = rw (own_ahead, is)
 
-module _ {net : Net} {next : NextLeaf} {v : ℕ} (s : Sweeping net next v) where
-  pub fanins_below : free net < v → (var_of (first net v) < v) × (var_of (second net v) < v)
-  fanins_below h =
-      let gate : IsGate net v = record { above = h; within = s.within } in
-      let low = s.net_ok.lawful.below v gate in
-      let order = s.net_ok.lawful.ordered v gate in
-      (omega arith, omega arith)
+  pub input_has : next_is next v ≡ false → v ≤ free net → (x : A) → Option.get_or (own_ahead at_leaf at_input net next v) x ≡ at_input
+  unfolding own_ahead
+  input_has other h x = rw (own_ahead, other, le-leb v (free net) h)
 
-  module _ (leaf : next_is next v ≡ true) where
-    pub covered_leaf : (x : Bool) → Option.get_or (covered_ahead net next v) x ≡ true
-    unfolding covered_ahead
-    covered_leaf x = rw (covered_ahead, leaf)
-
-    -- a leaf has its pattern, whatever its gate gives
-    pub table_leaf : (x : ℕ) → Option.get_or (table_ahead next v) x ≡ leaf_pattern next.place
-    unfolding table_ahead
-    table_leaf x = rw (table_ahead, leaf)
-
-  module _ (other : next_is next v ≡ false) where
-    pub covered_input : v ≤ free net → (x : Bool) → Option.get_or (covered_ahead net next v) x ≡ false
-    unfolding covered_ahead
-    covered_input h x = rw (covered_ahead, other, le-leb v (free net) h)
-
-    -- the code reads the two at places a and b, and the second only where the first is covered
-    module _ (h : free net < v) (covers : List Bool) where
-      covered_gate : v ≤ length covers
-          → Option.get_or (covered_ahead net next v) (by_gate coverage net v covers)
-          ≡ get_or covers (var_of (first net v)) false && get_or covers (var_of (second net v)) false
-      unfolding covered_ahead coverage
-      covered_gate room =
-          rw (covered_ahead, other, lt-leb v (free net) h)
-          (by_gate_gate coverage net v covers h
-          ∙ ap₂ ◌&&◌
-          (covered_literal covers (first net v) (omega (arith, fanins_below h)))
-          (covered_literal covers (second net v) (omega (arith, fanins_below h))))
-
-      module _ {a : ℕ} (room : v ≤ length covers) (p : a ≡ var_of (first net v)) where
-        pub covered_both : {b : ℕ} → b ≡ var_of (second net v) → get_or covers a false ≡ true
-            → Option.get_or (covered_ahead net next v) (by_gate coverage net v covers) ≡ get_or covers b false
-        covered_both q e = covered_gate room ∙ rw (sym p, e, q)
-
-        pub covered_not : get_or covers a false ≡ false → Option.get_or (covered_ahead net next v) (by_gate coverage net v covers) ≡ false
-        covered_not e = covered_gate room ∙ rw (sym p, e)
-
-    own_none : (x : ℕ) → Option.get_or (table_ahead next v) x ≡ x
-    unfolding table_ahead
-    own_none x = rw (table_ahead, other)
-
-    pub table_input : v ≤ free net → (tables : List ℕ) → Option.get_or (table_ahead next v) (by_gate words net v tables) ≡ words.no
-    table_input h tables = own_none _ ∙ by_gate_free words net v tables h
-
-    pub table_gate : free net < v → (tables : List ℕ)
-        → Option.get_or (table_ahead next v) (by_gate words net v tables)
-        ≡ words.conj (lit_value words tables (first net v)) (lit_value words tables (second net v))
-    table_gate h tables = own_none _ ∙ by_gate_gate words net v tables h
+  pub gate_has : next_is next v ≡ false → free net < v → (x : A) → Option.get_or (own_ahead at_leaf at_input net next v) x ≡ x
+  unfolding own_ahead
+  gate_has other h x = rw (own_ahead, other, lt-leb v (free net) h)
 
 -- ---- the lent list so far
 
--- what was set down at the front before is written over
-front_over : {A : Type 0} (xs lent : List A) (x : A) → 0 < length xs → written xs (set lent 0 x) ≡ written xs lent
-unfolding written
-front_over xs lent x h = ap (λ (rest : List _). xs ++ rest) (drop-set-lt (length xs) lent 0 x h)
-
 -- a sweep of a lent list up to the root that has come to variable n, and the next leaf
-pub record Sweep {A : Type 0} (K : Algebra A) (own : ℕ → Option A) (net : Net) (w : Leaves) (root : ℕ) (lent list : List A)
+pub record Sweep {A : Type 0} (K : Algebra A) (at_leaf : ℕ → A) (at_input : A) (net : Net) (w : Leaves) (root : ℕ) (lent list : List A)
     (next : NextLeaf) (n : ℕ) : Type 0 where
-  pub net_ok : WellFormedNet net
   pub known : root ≤ last net
   pub room : root < length lent
   pub within : n ≤ root
   pub ahead : Ahead w (suc n) next
-  pub swept : list ≡ Swept K own net lent n
+  pub swept : list ≡ written (swept_up_to K at_leaf at_input net w n) lent
 
-module _ {A : Type 0} {K : Algebra A} {own : ℕ → Option A} {net : Net} {w : Leaves} {root : ℕ} where
+module _ {A : Type 0} {K : Algebra A} {at_leaf : ℕ → A} {at_input : A} {net : Net} {w : Leaves} {root : ℕ} where
   module _ (lent : List A) (x : A) where
-    pub sweep_none : x ≡ K.no → WellFormedNet net × (root ≤ last net) → WellSet root w × (root < length lent)
+    pub sweep_none : x ≡ K.no → (root ≤ last net) × (root < length lent) → WellSet root w
         → {next : NextLeaf}
         → next.place ≡ 0
         → option_map (λ (u : Var). u.0) next.leaf ≡ slice_get (leaf_list w) 0
-        → Sweep K own net w root (set lent 0 x) (set lent 0 x) next 0
-    sweep_none e (ok, known) (well, room) p q =
+        → Sweep K at_leaf at_input net w root (set lent 0 x) (set lent 0 x) next 0
+    sweep_none e (known, room) well p q =
+        let own = window_own at_leaf at_input net w in
         record {
-          net_ok = ok;
           known = known;
           room = simp length-set (omega arith);
           within = omega arith;
           ahead = ahead_none well p q;
           swept = ap (set lent 0) e ∙ swept_zero K own net lent (omega arith)
-              ∙ sym (front_over (values K own net 0) lent x (omega (arith, values_length K own net 0)));
+              ∙ sym (written_over (values K own net 0) lent x (omega (arith, values_length K own net 0)));
         }
 
-    pub sweep_all : {list : List A} {next : NextLeaf} {n : ℕ} → Sweep K own net w root (set lent 0 x) list next n → root ≤ n
-        → list ≡ written (values K own net root) lent
+    pub sweep_all : {list : List A} {next : NextLeaf} {n : ℕ} → Sweep K at_leaf at_input net w root (set lent 0 x) list next n → root ≤ n
+        → list ≡ written (swept_up_to K at_leaf at_input net w root) lent
     sweep_all {n} s h =
+        let own = window_own at_leaf at_input net w in
         let q : n ≡ root = omega arith in
         s.swept
-        ∙ front_over (values K own net n) lent x (omega (arith, values_length K own net n))
+        ∙ written_over (values K own net n) lent x (omega (arith, values_length K own net n))
         ∙ ap (Swept K own net lent) q
 
-  module _ {lent list : List A} {next : NextLeaf} {n : ℕ} (s : Sweep K own net w root lent list next n) where
+  module _ {lent list : List A} {next : NextLeaf} {n : ℕ} (s : Sweep K at_leaf at_input net w root lent list next n) where
     pub sweep_length : length list ≡ length lent
-    sweep_length = ap length s.swept ∙ swept_length K own net lent n (omega arith)
+    sweep_length = ap length s.swept ∙ swept_length K (window_own at_leaf at_input net w) net lent n (omega arith)
 
     pub sweep_ahead : Ahead w (n + 1) next
     sweep_ahead = rw (add-one n) s.ahead
 
     module _ (h : n < root) where
       pub sweep_next : Sweeping net next (n + 1)
-      sweep_next =
-          record { net_ok = s.net_ok; within = omega arith; place_ok = place_below_limit sweep_ahead }
+      sweep_next = record { within = omega arith; place_ok = place_below_limit sweep_ahead }
 
-      -- what the next variable has is set down at its place; o is what it has itself, by the next leaf
-      pub sweep_more : (x : A) {o : Option A} {at : ℕ} {after : NextLeaf} → x ≡ Option.get_or o (by_gate K net (n + 1) list)
-          → o ≡ own (n + 1)
+      -- what the next variable has is set down at its place
+      pub sweep_more : WellFormedNet net → (x : A) {at : ℕ} {after : NextLeaf}
+          → x ≡ Option.get_or (own_ahead at_leaf at_input net next (n + 1)) (by_gate K net (n + 1) list)
           → at ≡ n + 1
           → Ahead w (suc (n + 1)) after
-          → Sweep K own net w root lent (set list at x) after (n + 1)
-      sweep_more x {at} e o_is q a =
+          → Sweep K at_leaf at_input net w root lent (set list at x) after (n + 1)
+      sweep_more ok x {at} e q a =
+          let own = window_own at_leaf at_input net w in
           let is : x ≡ Option.get_or (own (suc n)) (by_gate K net (suc n) (Swept K own net lent n)) =
-          rw (o_is, add-one n, s.swept) at e in
+          rw (ahead_is sweep_ahead at_leaf at_input net, add-one n, s.swept) at e in
           record {
-            net_ok = s.net_ok;
             known = s.known;
             room = s.room;
             within = omega arith;
             ahead = a;
-            swept = rw (q, add-one n, s.swept) (swept_more K own net lent s.net_ok n x (omega arith) (omega arith) is);
+            swept = rw (q, add-one n, s.swept) (swept_more K own net lent ok n x (omega arith) (omega arith) is);
           }
 
 -- ---- what the sweeps leave
+
+module _ (net : Net) (w : Leaves) where
+  pub covered_swept : (n : ℕ) → swept_up_to coverage (λ place. true) false net w n ≡ covered_up_to net w n
+  unfolding covered_up_to covered_own window_own
+  covered_swept n = refl
+
+  -- by its gate an input has what inputs have
+  word_own : (v : ℕ) (ws : List ℕ)
+      → Option.get_or (window_own leaf_pattern words.no net w v) (by_gate words net v ws)
+      ≡ Option.get_or (leaf_own w leaf_pattern v) (by_gate words net v ws)
+  unfolding window_own leaf_own
+  word_own v ws = go (leaf_place w v) refl (leb v (free net)) refl
+    where
+      go : (o : Option ℕ) → leaf_place w v ≡ o → (b : Bool) → leb v (free net) ≡ b
+          → Option.get_or (window_own leaf_pattern words.no net w v) (by_gate words net v ws)
+          ≡ Option.get_or (leaf_own w leaf_pattern v) (by_gate words net v ws)
+      go (some j) e b f = rw (window_own, leaf_own, e)
+      go none e true f = rw (window_own, leaf_own, e, f) (sym (by_gate_free words net v ws (leb-true v (free net) f)))
+      go none e false f = rw (window_own, leaf_own, e, f)
+
+  pub words_swept : (n : ℕ) → swept_up_to words leaf_pattern words.no net w n ≡ words_up_to net w n
+  unfolding words_up_to values
+  words_swept zero = refl
+  words_swept (suc n) =
+      ap₂ (λ (ws : List ℕ) (x : ℕ). ws ++ (x ∷ [])) (words_swept n)
+      (word_own (suc n) (swept_up_to words leaf_pattern words.no net w n)
+      ∙ ap (λ (ws : List ℕ). Option.get_or (leaf_own w leaf_pattern (suc n)) (by_gate words net (suc n) ws)) (words_swept n))
 
 module _ (net : Net) (w : Leaves) (n : ℕ) where
   pub covered_at : (covers lent : List Bool) → covers ≡ written (covered_up_to net w n) lent → (v : ℕ) → v ≤ n

@@ -5,10 +5,10 @@ use Rattle.std.specs.Option.{option_map}
 use Rattle.std.proofs.Math.Option.{Option, none, some}
 use Rattle.graph.specs.declared.lit.Var.{Var}
 use Rattle.graph.specs.Lists.{gather, keep}
-use Rattle.graph.specs.Graph.{Net, free, last, WellFormedNet}
+use Rattle.graph.specs.Graph.{Net, free, last}
+use Rattle.graph.specs.Sweep.{Algebra, values}
 use Rattle.window.specs.declared.leaf_set.Leaves.{Leaves}
-use Rattle.window.specs.Leaves.{leaf_limit, leaf_list}
-use Rattle.window.specs.Table.{leaf_pattern}
+use Rattle.window.specs.Leaves.{leaf_limit, leaf_list, leaf_place}
 use Rattle.cutter.specs.declared.next_leaf.NextLeaf.{NextLeaf}
 
 -- of leaves that ascend, j stand below v, and the others do not
@@ -30,19 +30,22 @@ next_is next v = elim next.leaf [ None ↦ false | Some leaf ↦ eqb leaf.0 v ]
 
 -- v is a variable of the net, and where it is the next leaf, that has one of the six places
 pub record Sweeping (net : Net) (next : NextLeaf) (v : ℕ) : Type 0 where
-  pub net_ok : WellFormedNet net
   pub within : v ≤ last net
   pub place_ok : next_is next v ≡ true → next.place < leaf_limit
 
--- what a sweep gives variable v itself, by the next leaf: a leaf is covered, and an input that is none is not
-unfoldable pub covered_ahead : Net → NextLeaf → ℕ → Option Bool
-unfolding next_is
-covered_ahead net next v = cond (next_is next v) (some true) (cond (leb v (free net)) (some false) none)
+-- what variable v has itself: a leaf what its place gives it, even one that is a gate, and an input that is none what inputs have
+unfoldable pub window_own : {A : Type 0} → (ℕ → A) → A → Net → Leaves → ℕ → Option A
+unfolding leaf_place
+window_own at_leaf at_input net w v = elim (leaf_place w v) [ some j ↦ some (at_leaf j) | none ↦ cond (leb v (free net)) (some at_input) none ]
 
--- a leaf has the pattern of its place
-unfoldable pub table_ahead : NextLeaf → ℕ → Option ℕ
-unfolding next_is leaf_pattern
-table_ahead next v = cond (next_is next v) (some (leaf_pattern next.place)) none
+-- what the variables 0 to n have, each leaf and each input its own, and any other by its gate
+abbrev pub swept_up_to : {A : Type 0} → Algebra A → (ℕ → A) → A → Net → Leaves → ℕ → List A
+swept_up_to K at_leaf at_input net w n = values K (window_own at_leaf at_input net w) net n
+
+-- what variable v has itself by the next leaf, as a sweep finds it
+unfoldable pub own_ahead : {A : Type 0} → (ℕ → A) → A → Net → NextLeaf → ℕ → Option A
+unfolding next_is
+own_ahead at_leaf at_input net next v = cond (next_is next v) (some (at_leaf next.place)) (cond (leb v (free net)) (some at_input) none)
 
 -- the covered variables below n, ascending, by a list that says of each whether it is
 unfoldable pub covered_in : List Bool → ℕ → List ℕ

@@ -1,56 +1,70 @@
-// Which variables are covered, in one ascending sweep up to the root. Each function asks for what its callers have proved.
+// Which variables are covered, up to a window's root.
 ghost use Rattle.std.specs.Prelude.{◌≡◌, ◌<◌, ◌≤◌, length};
-ghost use Rattle.std.proofs.Math.Option.{get_or};
 ghost use Rattle.graph.specs.Lent.{written};
-ghost use Rattle.graph.specs.Graph.{last, WellFormedNet};
-ghost use Rattle.graph.specs.Sweep.{by_gate};
-ghost use Rattle.window.specs.Leaves.{WellSet};
-ghost use Rattle.window.specs.Local.{coverage, covered_up_to, covered};
-ghost use Rattle.cutter.specs.Sweeping.{Sweeping, covered_ahead, covered_in};
+ghost use Rattle.window.specs.Local.{covered_up_to, covered};
+ghost use Rattle.cutter.specs.Sweeping.{covered_in};
 
-use crate::next_leaf::NextLeaf;
-use graph::{LentGraph, MOST_VARIABLES, Var};
-use window::Leaves;
+use crate::sweep::{Swept, sweep};
+use graph::{Algebra, MOST_VARIABLES, Var};
+use window::LeafWindow;
 
-// Variable v is covered, where `covers` says it of those below it.
-fn is_covered(graph: &LentGraph, covers: &[bool], v: Var, next: NextLeaf) -> bool
-    requires { Sweeping graph.now.net next v.0 × (v.0 ≤ length covers.now) }
-    ensures { result ≡ get_or (covered_ahead graph.now.net next v.0) (by_gate coverage graph.now.net v.0 covers.now) }
-{
-    if next.is(v) {
-        return true;
+// Coverage is a sweep in which leaves are covered, and inputs that are none are not.
+struct Coverage;
+
+#[tactic(auto, unfolding(window::specs::Local::coverage))]
+impl Algebra for Coverage {
+    ghost use Rattle.window.specs.Local.{coverage};
+
+    type Value = bool;
+
+    ghost ops = { coverage };
+
+    fn no() -> bool {
+        true
     }
-    if v.at() <= graph.inputs() {
-        return false;
+
+    fn and(a: bool, b: bool) -> bool {
+        a & b
     }
-    let gate = graph.fanins_of(v);
-    covers[gate.first.var().at()] && covers[gate.second.var().at()]
+
+    fn complement(a: bool) -> bool {
+        a
+    }
+}
+
+impl Swept for Coverage {
+    ghost use Rattle.std.specs.Prelude.{true, false};
+
+    ghost at_leaf = { λ place. true };
+
+    ghost at_input = { false };
+
+    fn leaf(_place: usize) -> bool {
+        true
+    }
+
+    fn input() -> bool {
+        false
+    }
 }
 
 // Which of the variables 0 to the root are covered stands at the front of `covers`.
-pub fn cover(graph: &LentGraph, leaves: Leaves, root: Var, covers: &mut [bool])
-    requires well_formed_net { WellFormedNet graph.now.net × (root.0 ≤ last graph.now.net) }
-    requires well_set { WellSet root.0 leaves × (root.0 < length covers.old) }
-    ensures { covers.new ≡ written (covered_up_to graph.now.net leaves root.0) covers.old }
+#[tactic(auto, using(crate::proofs::Sweeping::covered_swept))]
+pub fn cover(window: &LeafWindow, covers: &mut [bool])
+    requires { window.now.root.0 < length covers.old }
+    ensures { covers.new ≡ written (covered_up_to window.now.net.now window.now.leaves window.now.root.0) covers.old }
 {
-    covers[0] = true;
-    let mut next = NextLeaf::at(leaves, 0);
-    for n in 0..root.0 {
-        let v = Var(n + 1);
-        covers[v.at()] = is_covered(graph, covers, v, next);
-        next = next.past(leaves, v);
-    }
+    sweep::<Coverage>(window, covers);
 }
 
 // The leaves cut the root: it is covered.
 #[tactic(auto, using(crate::proofs::Sweeping::covered_at))]
-pub fn is_cut(graph: &LentGraph, leaves: Leaves, root: Var) -> bool
-    requires { WellFormedNet graph.now.net × (root.0 ≤ last graph.now.net) × WellSet root.0 leaves }
-    ensures { result ≡ covered graph.now.net leaves root.0 }
+pub fn is_cut(window: &LeafWindow) -> bool
+    ensures { result ≡ covered window.now.net.now window.now.leaves window.now.root.0 }
 {
     let mut covers = [false; MOST_VARIABLES];
-    cover(graph, leaves, root, &mut covers);
-    covers[root.at()]
+    cover(window, &mut covers);
+    covers[window.root.at()]
 }
 
 // The covered variables below the root, ascending, stand at the front of the list; how many there are.

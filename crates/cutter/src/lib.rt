@@ -5,6 +5,7 @@
 pub mod cover;
 mod next_leaf;
 pub mod rule;
+mod sweep;
 pub mod tables;
 pub mod verdict;
 
@@ -15,14 +16,14 @@ use graph::{LentGraph, Refusal, Var};
 use rule::pick_leaves;
 use tables::root_table;
 use verdict::{root_verdict, window_verdict};
-use window::{Leaves, Table};
+use window::{LeafWindow, Leaves, Table};
 
 // Picks leaves: the set that the leaf rule comes to; or why it is refused.
 pub fn pick(graph: &LentGraph, root: Var) -> Result<Leaves, Refusal>
     ensures { result ≡ pick_answer graph.now root.0 }
 {
     root_verdict(graph, root)?;
-    Ok(pick_leaves(graph, root))
+    Ok(pick_leaves(&graph.net(), root))
 }
 
 // Asks for the root's table over the leaves: its 64 bits; or why it is refused.
@@ -30,5 +31,11 @@ pub fn table(graph: &LentGraph, root: Var, leaves: Leaves) -> Result<Table, Refu
     ensures { result ≡ table_answer graph.now root.0 leaves }
 {
     window_verdict(graph, root, leaves)?;
-    Ok(root_table(graph, leaves, root))
+    let net = graph.net();
+    let window = LeafWindow {
+        net: &net,
+        root,
+        leaves,
+    };
+    Ok(root_table(&window))
 }

@@ -1,12 +1,12 @@
 // The leaf rule. Expansions are compared by their counts, and only the one that is taken is built.
 ghost use Rattle.std.specs.Prelude.{◌≡◌, None};
 ghost use Rattle.graph.specs.Lists.{◌∈◌};
-ghost use Rattle.graph.specs.Graph.{IsGate, WellFormedNet};
+ghost use Rattle.graph.specs.Graph.{IsGate};
 ghost use Rattle.window.specs.Leaves.{leaf_list};
 ghost use Rattle.window.specs.LeafRule.{picked};
 ghost use Rattle.cutter.specs.Picking.{better, best, Choosing};
 
-use graph::{LentGraph, Var};
+use graph::{LentGraph, Net, Var};
 use window::{LEAF_LIMIT, Leaves};
 
 // The leaf whose expansion is the smallest so far, and how many leaves that has.
@@ -45,13 +45,14 @@ fn best_leaf(leaves: Leaves, graph: &LentGraph) -> Option<Choice>
 
 // The leaf rule: the smallest expansion is taken until there is none. A variable that gave way can come back, so no number of gates
 // bounds the turns; what falls is the sum of 2 ^ v over the leaves v.
-pub fn pick_leaves(graph: &LentGraph, root: Var) -> Leaves
-    requires { WellFormedNet graph.now.net × IsGate graph.now.net root.0 }
-    ensures { result ≡ picked graph.now.net root.0 }
+pub fn pick_leaves(net: &Net, root: Var) -> Leaves
+    requires { IsGate net.now root.0 }
+    ensures { result ≡ picked net.now root.0 }
 {
-    let mut leaves = Leaves::none().with_fanins(graph, root).unwrap();
-    while let Some(choice) = best_leaf(leaves, graph) {
-        leaves = leaves.expand(graph, choice.leaf).unwrap();
+    let graph = net.graph();
+    let mut leaves = Leaves::none().with_fanins(&graph, root).unwrap();
+    while let Some(choice) = best_leaf(leaves, &graph) {
+        leaves = leaves.expand(&graph, choice.leaf).unwrap();
     }
     leaves
 }

@@ -7,7 +7,7 @@ use crate::cover::is_cut;
 use checker::usage::in_use;
 use checker::well_formed;
 use graph::{LentGraph, Refusal, Var};
-use window::Leaves;
+use window::{LeafWindow, Leaves};
 
 // Whether the root is a gate in use of a graph, or why not.
 #[tactic(auto, using(graph::proofs::Graph::well_formed_lem), unfolding(window::specs::Calls::root_refusals, graph::specs::Refuse::first_refusal, graph::specs::Refuse::verdict_is))]
@@ -17,7 +17,7 @@ pub fn root_verdict(graph: &LentGraph, root: Var) -> Result<(), Refusal>
     if !well_formed(graph) {
         return Err(Refusal::BadGraph);
     }
-    if !in_use(graph, root) {
+    if !in_use(&graph.checked(), root) {
         return Err(Refusal::BadRoot);
     }
     Ok(())
@@ -32,7 +32,13 @@ pub fn window_verdict(graph: &LentGraph, root: Var, leaves: Leaves) -> Result<()
     if !leaves.well_set(root) {
         return Err(Refusal::BadLeaves);
     }
-    if !is_cut(graph, leaves, root) {
+    let net = graph.net();
+    let window = LeafWindow {
+        net: &net,
+        root,
+        leaves,
+    };
+    if !is_cut(&window) {
         return Err(Refusal::NotACut);
     }
     Ok(())

@@ -1,8 +1,10 @@
 // A graph as a caller lends it: any words whatever. What it means is a `Graph` of specs/Graph.antt, which every contract speaks of.
 ghost use Rattle.std.specs.Prelude.{◌≡◌, ◌≤◌};
-ghost use Rattle.graph.specs.Graph.{graph_of, free, size, last, sinks, most_inputs, WellFormed, WellFormedNet};
+ghost use Rattle.graph.specs.Graph.{graph_of, free, size, last, sinks, most_inputs, first, second, IsGate, WellFormed, WellFormedNet};
 
 use crate::checked::CheckedGraph;
+use crate::gate::Fanins;
+use crate::lit::{Lit, Var};
 use crate::net::Net;
 use std::marker::Model;
 
@@ -65,6 +67,20 @@ impl<'a> LentGraph<'a> {
         ensures { result ≡ last self.now.net }
     {
         self.inputs + self.gates.len() / 2
+    }
+
+    // The two literals of v's gate: here a word becomes a literal.
+    #[tactic(auto, unfolding(crate::specs::Graph::first, crate::specs::Graph::second))]
+    pub fn fanins_of(&self, v: Var) -> Fanins
+        requires { (free self.now.net ≤ most_inputs) × IsGate self.now.net v.0 }
+        ensures first_value { result.first.0 ≡ first self.now.net v.0 }
+        ensures second_value { result.second.0 ≡ second self.now.net v.0 }
+    {
+        let at = 2 * (v.at() - (self.inputs + 1));
+        Fanins {
+            first: Lit(self.gates[at]),
+            second: Lit(self.gates[at + 1]),
+        }
     }
 
     // The same graph, which is well formed.

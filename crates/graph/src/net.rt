@@ -1,9 +1,10 @@
 // The inputs and gates of a lent graph, where they keep the rules: whoever has a net knows that they do.
-ghost use Rattle.std.specs.Prelude.{◌≡◌};
-ghost use Rattle.graph.specs.Graph.{net_of, free, size, last, first, second, IsGate, WellFormedNet};
+ghost use Rattle.std.specs.Prelude.{◌≡◌, []};
+ghost use Rattle.graph.specs.Graph.{net_of, over, free, size, last, first, second, IsGate, WellFormedNet};
 
 use crate::gate::Fanins;
-use crate::lit::{Lit, Var};
+use crate::lent_graph::LentGraph;
+use crate::lit::Var;
 use std::marker::Model;
 
 #[derive(Drop)]
@@ -61,18 +62,21 @@ impl<'a> Net<'a> {
         self.inputs + self.gates.len() / 2
     }
 
-    // The two literals of v's gate: here a word becomes a literal.
-    #[tactic(auto, unfolding(crate::specs::Graph::first, crate::specs::Graph::second))]
+    // The same inputs and gates, as a lent graph without outputs.
+    pub fn graph(&self) -> LentGraph<'a>
+        ensures value { result ≡ over self.now [] }
+        ensures well_formed { WellFormedNet self.now }
+    {
+        LentGraph::new(self.inputs, self.gates, &[])
+    }
+
+    // The two literals of v's gate.
     pub fn fanins_of(&self, v: Var) -> Fanins
         requires { IsGate self.now v.0 }
         ensures first_value { result.first.0 ≡ first self.now v.0 }
         ensures second_value { result.second.0 ≡ second self.now v.0 }
         ensures well_formed { WellFormedNet self.now }
     {
-        let at = 2 * (v.at() - (self.inputs + 1));
-        Fanins {
-            first: Lit(self.gates[at]),
-            second: Lit(self.gates[at + 1]),
-        }
+        self.graph().fanins_of(v)
     }
 }

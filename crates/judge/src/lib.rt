@@ -1,12 +1,10 @@
 // Whether a proposal may stand for a root: its kind's rule, and its table over the leaves.
 #![tactic(auto)]
 
-ghost use Rattle.std.specs.Prelude.{◌≡◌, false, ◌<◌, ◌≤◌, length, get_or};
+ghost use Rattle.std.specs.Prelude.{◌≡◌, false, ◌<◌, length, get_or};
 ghost use Rattle.graph.specs.Lists.{every};
 ghost use Rattle.graph.specs.Literal.{var_of};
-ghost use Rattle.graph.specs.Graph.{last, WellFormedNet};
 ghost use Rattle.graph.specs.Refuse.{first_refusal, verdict_is};
-ghost use Rattle.window.specs.Leaves.{WellSet};
 ghost use Rattle.window.specs.Table.{words, table, same_table};
 ghost use Rattle.replacement.specs.Proposal.{divides, literal_rules, and_rules, keeps_rule, allowed, proposed_value, proposed_table};
 ghost use Rattle.replacement.specs.Calls.{proposal_refusals};
@@ -16,7 +14,7 @@ use cutter::tables::{fill_tables, literal_table, table_at};
 use cutter::verdict::window_verdict;
 use graph::{LentGraph, Lit, MOST_VARIABLES, Refusal, Var};
 use replacement::Proposal;
-use window::{Leaves, Table};
+use window::{LeafWindow, Leaves, Table};
 
 // The literal's variable is below the root and covered; `covers` says which variables are.
 #[tactic(auto, unfolding(replacement::specs::Proposal::divides))]
@@ -65,13 +63,12 @@ fn keeps_rule(covers: &[bool], root: Var, proposal: Proposal) -> bool
 }
 
 // The proposal keeps its kind's rule over these leaves.
-fn is_allowed(graph: &LentGraph, leaves: Leaves, root: Var, proposal: Proposal) -> bool
-    requires { WellFormedNet graph.now.net × (root.0 ≤ last graph.now.net) × WellSet root.0 leaves }
-    ensures { result ≡ allowed graph.now.net root.0 leaves proposal }
+fn is_allowed(window: &LeafWindow, proposal: Proposal) -> bool
+    ensures { result ≡ allowed window.now.net.now window.now.root.0 window.now.leaves proposal }
 {
     let mut covers = [false; MOST_VARIABLES];
-    cover(graph, leaves, root, &mut covers);
-    keeps_rule(&covers, root, proposal)
+    cover(window, &mut covers);
+    keeps_rule(&covers, window.root, proposal)
 }
 
 // The proposal's table, where `tables` has those of its variables.
@@ -94,14 +91,13 @@ pub fn proposal_table(tables: &[u64], proposal: Proposal) -> Table
 
 // The proposal's table is the root's, in all 64 bits.
 #[tactic(auto, using(crate::proofs::Rules::table_by, cutter::proofs::Sweeping::table_in))]
-fn is_equal(graph: &LentGraph, leaves: Leaves, root: Var, proposal: Proposal) -> bool
-    requires well_formed_net { WellFormedNet graph.now.net × (root.0 ≤ last graph.now.net) × WellSet root.0 leaves }
-    requires first_bound { (var_of proposal.first.0 < root.0) × (var_of proposal.second.0 < root.0) }
-    ensures { result ≡ same_table (proposed_table graph.now.net root.0 leaves proposal) (table graph.now.net leaves root.0) }
+fn is_equal(window: &LeafWindow, proposal: Proposal) -> bool
+    requires { (var_of proposal.first.0 < window.now.root.0) × (var_of proposal.second.0 < window.now.root.0) }
+    ensures { result ≡ same_table (proposed_table window.now.net.now window.now.root.0 window.now.leaves proposal) (table window.now.net.now window.now.leaves window.now.root.0) }
 {
     let mut tables = [0u64; MOST_VARIABLES];
-    fill_tables(graph, leaves, root, &mut tables);
-    proposal_table(&tables, proposal).same(table_at(&tables, root))
+    fill_tables(window, &mut tables);
+    proposal_table(&tables, proposal).same(table_at(&tables, window.root))
 }
 
 // Whether the proposal may stand for the root, or why not.
@@ -114,10 +110,16 @@ pub fn proposal_verdict(
     ensures { verdict_is result ≡ first_refusal (proposal_refusals graph.now root.0 leaves proposal) }
 {
     window_verdict(graph, root, leaves)?;
-    if !is_allowed(graph, leaves, root, proposal) {
+    let net = graph.net();
+    let window = LeafWindow {
+        net: &net,
+        root,
+        leaves,
+    };
+    if !is_allowed(&window, proposal) {
         return Err(Refusal::BadCandidate);
     }
-    if !is_equal(graph, leaves, root, proposal) {
+    if !is_equal(&window, proposal) {
         return Err(Refusal::NotEqual);
     }
     Ok(())

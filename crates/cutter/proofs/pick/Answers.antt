@@ -10,10 +10,13 @@ returns-in_err-root_verdict c =
     let p = err_from_is_err_and c.from_residual.result c.from_residual.ensures.1 in
     rw (p.1, p.2) (pick_refused _ _ c.root_verdict.ensures c.in_err-root_verdict.was)
 
+pub net-requires : goal.net-requires
+net-requires c = net_well_formed _ (root_known _ _ c.root_verdict.ensures c.in_ok-root_verdict.was).0
+
 pub pick_leaves-requires : goal.pick_leaves-requires
 pick_leaves-requires c =
     let known = root_known _ _ c.root_verdict.ensures c.in_ok-root_verdict.was in
-    (net_well_formed _ known.0, known.1.is_gate)
+    rw c.net.ensures known.1.is_gate
 
 pub returns : goal.returns
-returns c = rw c.pick_leaves.ensures (pick_fine _ _ c.root_verdict.ensures c.in_ok-root_verdict.was)
+returns c = rw (c.pick_leaves.ensures, c.net.ensures) (pick_fine _ _ c.root_verdict.ensures c.in_ok-root_verdict.was)

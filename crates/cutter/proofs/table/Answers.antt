@@ -11,11 +11,18 @@ returns-in_err-window_verdict c =
     let p = err_from_is_err_and c.from_residual.result c.from_residual.ensures.1 in
     rw (p.1, p.2) (table_refused _ _ _ c.window_verdict.ensures c.in_err-window_verdict.was)
 
-pub root_table-requires : goal.root_table-requires
-root_table-requires c =
+pub net-net-requires : goal.net-net-requires
+net-net-requires c = net_well_formed _ (window_known _ _ _ c.window_verdict.ensures c.in_ok-window_verdict.was).graph
+
+pub invariant_of-window : goal.invariant_of-window
+invariant_of-window c =
     let known = window_known _ _ _ c.window_verdict.ensures c.in_ok-window_verdict.was in
-    (net_well_formed _ known.graph, known.root_used.is_gate.within, known.leaves)
+    record {
+      net_ok = rw c.net-net.ensures (net_well_formed _ known.graph);
+      within = rw c.net-net.ensures known.root_used.is_gate.within;
+      well_set = known.leaves;
+    }
 
 pub returns : goal.returns
 returns c =
-    ap (λ (t : ℕ). Ok (record { 0 = t })) c.root_table.ensures ∙ table_fine _ _ _ c.window_verdict.ensures c.in_ok-window_verdict.was
+    ap (λ (t : ℕ). Ok (record { 0 = t })) (rw c.net-net.ensures at c.root_table.ensures) ∙ table_fine _ _ _ c.window_verdict.ensures c.in_ok-window_verdict.was

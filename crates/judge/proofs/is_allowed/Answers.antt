@@ -5,4 +5,4 @@ use Rattle.judge.proofs.Rules.{allowed_by}
 use Rattle.judge.proofs.is_allowed.Goals as goal
 
 pub returns : goal.returns
-returns c = c.keeps_rule.ensures ∙ allowed_by c.args.graph.now.net c.args.root.0 c.args.leaves c.args.proposal _ _ c.cover.ensures
+returns c = c.keeps_rule.ensures ∙ allowed_by c.args.window.now.net.now c.args.window.now.root.0 c.args.window.now.leaves c.args.proposal _ _ c.cover.ensures

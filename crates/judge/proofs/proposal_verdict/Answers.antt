@@ -21,7 +21,7 @@ fine c = sym c.window_verdict.ensures ∙ ap verdict_is c.in_ok-window_verdict.w
 
 -- and the proposal keeps its kind's rule
 passed : (c : Else-not-is_allowed) → allowed c.args.graph.now.net c.args.root.0 c.args.leaves c.args.proposal ≡ true
-passed c = sym c.is_allowed.ensures ∙ c.if-not-is_allowed.false
+passed c = sym (rw c.net-net.ensures at c.is_allowed.ensures) ∙ c.if-not-is_allowed.false
 
 pub returns-in_err-window_verdict : goal.returns-in_err-window_verdict
 unfolding verdict_is
@@ -30,34 +30,37 @@ returns-in_err-window_verdict c =
     let first = sym c.window_verdict.ensures ∙ ap verdict_is c.in_err-window_verdict.was in
     rw (p.1, p.2) (sym (by_window _ _ _ _ _ first))
 
-pub is_allowed-requires : goal.is_allowed-requires
-is_allowed-requires c =
-    let window = window_known _ _ _ c.window_verdict.ensures c.in_ok-window_verdict.was in
-    (net_well_formed _ window.graph, window.root_used.is_gate.within, window.leaves)
+pub net-net-requires : goal.net-net-requires
+net-net-requires c = net_well_formed _ (window_known _ _ _ c.window_verdict.ensures c.in_ok-window_verdict.was).graph
+
+pub invariant_of-window : goal.invariant_of-window
+invariant_of-window c =
+    let known = window_known _ _ _ c.window_verdict.ensures c.in_ok-window_verdict.was in
+    record {
+      net_ok = rw c.net-net.ensures (net_well_formed _ known.graph);
+      within = rw c.net-net.ensures known.root_used.is_gate.within;
+      well_set = known.leaves;
+    }
 
 pub returns-then-not-is_allowed : goal.returns-then-not-is_allowed
 unfolding verdict_is
 returns-then-not-is_allowed c =
     let at = goal.at.returns-then-not-is_allowed c in
-    sym (bad_candidate _ _ _ _ (fine at.In_ok-window_verdict) (sym c.is_allowed.ensures ∙ c.if-not-is_allowed.true))
+    sym (bad_candidate _ _ _ _ (fine at.In_ok-window_verdict) (sym (rw c.net-net.ensures at c.is_allowed.ensures) ∙ c.if-not-is_allowed.true))
 
 pub is_equal-requires : goal.is_equal-requires
 is_equal-requires c =
-    let window = window_known _ _ _ c.window_verdict.ensures c.in_ok-window_verdict.was in
-    let gate = window.root_used.is_gate in
-    record {
-      well_formed_net = (net_well_formed _ window.graph, gate.within, window.leaves);
-      first_bound = literals_below c.args.graph.now _ _ _ gate (passed c);
-    }
+    let known = window_known _ _ _ c.window_verdict.ensures c.in_ok-window_verdict.was in
+    literals_below c.args.graph.now _ _ _ known.root_used.is_gate (passed (goal.at.is_equal-requires c).Else-not-is_allowed)
 
 pub returns-then-not-is_equal : goal.returns-then-not-is_equal
 unfolding verdict_is equal_tables
 returns-then-not-is_equal c =
     let at = goal.at.returns-then-not-is_equal c in
-    sym (not_equal _ _ _ _ (fine at.In_ok-window_verdict) (passed at.Else-not-is_allowed) (sym c.is_equal.ensures ∙ c.if-not-is_equal.true))
+    sym (not_equal _ _ _ _ (fine at.In_ok-window_verdict) (passed at.Else-not-is_allowed) (sym (rw c.net-net.ensures at c.is_equal.ensures) ∙ c.if-not-is_equal.true))
 
 pub returns : goal.returns
 unfolding verdict_is equal_tables
 returns c =
     let at = goal.at.returns c in
-    sym (proposal_fine _ _ _ _ (fine at.In_ok-window_verdict) (passed at.Else-not-is_allowed) (sym c.is_equal.ensures ∙ c.if-not-is_equal.false))
+    sym (proposal_fine _ _ _ _ (fine at.In_ok-window_verdict) (passed at.Else-not-is_allowed) (sym (rw c.net-net.ensures at c.is_equal.ensures) ∙ c.if-not-is_equal.false))

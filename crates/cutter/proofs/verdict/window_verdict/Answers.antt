@@ -15,7 +15,14 @@ returns-in_err-root_verdict c =
     let first = sym c.root_verdict.ensures ∙ ap verdict_is c.in_err-root_verdict.was in
     rw (p.1, p.2) (sym (by_root c.args.graph.now _ _ _ first))
 
-pub is_cut-requires : goal.is_cut-requires
-is_cut-requires c =
+pub net-net-requires : goal.net-net-requires
+net-net-requires c = net_well_formed _ (root_known _ _ c.root_verdict.ensures c.in_ok-root_verdict.was).0
+
+pub invariant_of-window : goal.invariant_of-window
+invariant_of-window c =
     let known = root_known _ _ c.root_verdict.ensures c.in_ok-root_verdict.was in
-    (net_well_formed _ known.0, known.1.is_gate.within, (well_set_iff _ _).0 (sym c.well_set.ensures ∙ c.if-not-well_set.false))
+    record {
+      net_ok = rw c.net-net.ensures (net_well_formed _ known.0);
+      within = rw c.net-net.ensures known.1.is_gate.within;
+      well_set = (well_set_iff _ _).0 (sym c.well_set.ensures ∙ c.if-not-well_set.false);
+    }

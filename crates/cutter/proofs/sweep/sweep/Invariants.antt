@@ -1,0 +1,7 @@
+-- The front of the list has what the variables 0 to n have.
+use Rattle.cutter.proofs.Sweeping.{Sweep}
+use Rattle.cutter.proofs.sweep.sweep.Given as goal
+
+abbrev pub invariant-loop-n : goal.invariant-loop-n
+invariant-loop-n g l =
+    Sweep g.A.Algebra.ops g.A.Swept.at_leaf g.A.Swept.at_input l.window.net.now l.window.leaves l.n-end l.initial.values l.values l.next l.n
