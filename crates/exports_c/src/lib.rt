@@ -1,5 +1,5 @@
 // The calls of `exports` under their own names for programs in other languages: to C a slice is a pointer and a length. Each is one call,
-// under the same clause.
+// under the same clause. They stand a second time since a crate is a library for Rattle or one for C, and C's names have no type parameter.
 #![tactic(auto)]
 
 ghost use Rattle.std.specs.Prelude.{◌≡◌, [], ◌∷◌};

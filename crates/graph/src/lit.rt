@@ -32,7 +32,7 @@ impl Lit {
 }
 
 impl Var {
-    // The place of this variable's value in a list that starts with variable 0.
+    // The place of this variable's value in a list that starts with variable 0. No `From`: the name says what the number is for.
     pub fn at(self) -> usize
         ensures { result ≡ self.0 }
     {

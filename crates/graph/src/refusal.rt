@@ -24,6 +24,7 @@ pub enum Refusal {
 }
 
 impl Refusal {
+    // No `From`: `refusal.number()` says which number it is.
     pub fn number(self) -> u32
         ensures { result ≡ number_of self }
     {

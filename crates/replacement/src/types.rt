@@ -6,6 +6,7 @@ ghost use Rattle.replacement.specs.Vanish.{new_gates};
 use graph::{Lit, Var};
 
 // A replacement for a root. Kind 0: the literal `first`. Kind 1: the AND of `first` and `second`, complemented where `turned` is 1.
+// Numbers, no enum: any may come in, and the clause of `apply` answers BAD CANDIDATE to a kind that there is not.
 #[derive(Clone, Copy, Debug, PartialEq, Eq)]
 pub struct Proposal {
     pub kind: u32,

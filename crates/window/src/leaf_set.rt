@@ -1,5 +1,5 @@
 // Leaf sets by value: each method hands back the changed set.
-ghost use Rattle.std.specs.Prelude.{◌≡◌, true, cond, ◌&&◌, ◌||◌, [], ◌∷◌, ◌++◌, ◌<◌, ◌≤◌, ltb, eqb, length, get_or, drop};
+ghost use Rattle.std.specs.Prelude.{◌≡◌, true, cond, ◌&&◌, ◌||◌, [], ◌∷◌, ◌++◌, ◌<◌, ◌≤◌, ltb, eqb, length, drop};
 ghost use Rattle.graph.specs.Lists.{is_in, all, ◌∈◌};
 ghost use Rattle.graph.specs.Graph.{most_inputs, free, IsGate, WellFormedNet};
 ghost use Rattle.window.specs.Leaves.{leaf_limit, numbers, leaf_list, leaves_of, ascends_from, well_set};
@@ -11,6 +11,7 @@ use graph::{LentGraph, Var};
 pub const LEAF_LIMIT: usize = 6;
 
 // A leaf set: how many leaves there are, and six places, ascending without repeats; unused places are 0.
+// A count beside an array, no vector: other languages pass just these, whatever they hold, and no memory is taken.
 #[derive(Clone, Copy, Debug, PartialEq, Eq)]
 pub struct Leaves {
     pub count: usize,
@@ -39,13 +40,6 @@ impl Leaves {
         ensures { result ≡ is_in v.0 (leaf_list self) }
     {
         self.as_slice().contains(&v)
-    }
-
-    // The leaf at this place; variable 0 where there is none.
-    pub fn leaf(self, place: usize) -> Var
-        ensures { result.0 ≡ get_or (leaf_list self) place 0 }
-    {
-        self.as_slice().get(place).copied().unwrap_or(Var(0))
     }
 
     // The leaves ascend from 1 on, and each is below the root.

@@ -1,4 +1,5 @@
-// Lines written out: each answers the place after it.
+// Lines written out: each answers the place after it. The buffer and the place go as two: a value that holds them would change in each call,
+// and each clause would have to say once more that the buffer keeps its length.
 ghost use Rattle.std.specs.Prelude.{◌≡◌, false, true, ◌+◌, ◌*◌, ◌≤◌, length};
 ghost use Rattle.graph.specs.Lent.{laid};
 ghost use Rattle.text.specs.Line.{separator, line, lines};
