@@ -6,7 +6,7 @@ use mathlib.Core.List.{List, [], ◌∷◌, ◌++◌, append-nil}
 use mathlib.Core.Option
 use mathlib.Core.Option.{Option, none, some}
 use Prim.Native.Nat.{ℕ, zero, suc, ◌+◌, ◌≤◌, ◌<◌}
-use native.Mathlib.Nat.{le_refl, le_of_suc-le-suc, not-suc-le-zero}
+use native.Mathlib.Nat.{le_refl}
 use native.Mathlib.Numerals.{add-one}
 use native.Mathlib.Omega.{arith}
 use borrow.Author.Tests.{leb-true, le-leb, lt-leb}
@@ -19,7 +19,7 @@ use Rattle.graph.specs.Lists.{gather, keep}
 use Rattle.graph.specs.Lent.{written}
 use Rattle.graph.specs.Graph.{Net, free, last, WellFormedNet}
 use Rattle.graph.specs.Sweep.{Algebra, by_gate, values}
-use Rattle.graph.proofs.Lists.{keep_append}
+use Rattle.graph.proofs.Lists.{keep_append, get_or_within}
 use Rattle.graph.proofs.Sweep.{values_length, values_at, by_gate_free}
 use Rattle.graph.proofs.Swept.{written_at, written_length, written_next, Swept, swept_length, swept_zero, swept_more, written_over}
 use Rattle.window.specs.declared.leaf_set.Leaves.{Leaves}
@@ -30,12 +30,6 @@ use Rattle.window.proofs.TableLaws.{words_are_tables}
 use Rattle.cutter.specs.declared.next_leaf.NextLeaf.{NextLeaf}
 use Rattle.cutter.specs.Sweeping.{Ahead, Sweeping, next_is, window_own, own_ahead, swept_up_to, covered_in}
 use Rattle.cutter.proofs.Passed.{ahead_none, place_below_limit, ahead_is}
-
--- inside the list the default is not asked for
-get_d_inside : {A : Type 0} (xs : List A) (k : ℕ) (d e : A) → k < length xs → get_or xs k d ≡ get_or xs k e
-get_d_inside [] k d e h = absurd (not-suc-le-zero h)
-get_d_inside (x ∷ xs) zero d e h = refl
-get_d_inside (x ∷ xs) (suc k) d e h = get_d_inside xs k d e (le_of_suc-le-suc h)
 
 -- ---- what a variable has, by the next leaf
 
@@ -158,7 +152,7 @@ module _ (net : Net) (w : Leaves) (n : ℕ) where
       let inside : v < length front = omega (arith, values_length coverage (covered_own net w) net n) in
       ap (λ (bs : List Bool). get_or bs v false) e
       ∙ written_at front lent v false inside
-      ∙ get_d_inside front v false true inside
+      ∙ get_or_within front v false true inside
       ∙ values_at coverage (covered_own net w) net n v h
 
   pub table_in : (tables lent : List ℕ) → tables ≡ written (words_up_to net w n) lent → (v : ℕ) → v ≤ n → get_or tables v 0 ≡ table net w v
