@@ -114,10 +114,6 @@ module _ {A : Type 0} (f : A → Bool) (d : A) where
   all_of [] h = refl
   all_of (x ∷ xs) h = and_both (f x) (all f xs) (h 0 (zero-lt-suc (length xs))) (all_of xs (λ j l. h (suc j) (omega arith)))
 
-  -- one failure decides
-  pub all_not : (xs : List A) (j : ℕ) → j < length xs → f (get_or xs j d) ≡ false → all f xs ≡ false
-  all_not xs j h e = fails_with _ _ (λ t. all_at xs t j h) e
-
 -- two functions that agree on the elements give the same list
 pub map_same : {A B : Type 0} (f h : A → B) (d : A) (xs : List A) → ((j : ℕ) → j < length xs → f (get_or xs j d) ≡ h (get_or xs j d))
     → map f xs ≡ map h xs

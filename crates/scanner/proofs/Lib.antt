@@ -4,3 +4,4 @@ pub mod Lines
 pub mod ReaderAnswers
 pub mod Thin
 pub mod Asked
+pub mod AnyByte

@@ -6,7 +6,6 @@ use mathlib.Core.List.{List, map}
 use Prim.Native.Nat.{ℕ, ◌<◌}
 use native.Mathlib.Omega.{arith}
 use lib.ListN.{length, get_or, set, length-map}
-use lib.Seq.{take_all}
 use Rattle.graph.specs.Lent.{written}
 use Rattle.graph.specs.Sweep.{bools, lit_value}
 use Rattle.graph.proofs.Lists.{cast_is}
@@ -40,11 +39,3 @@ loop-k-preserved c =
     ∙ sym (bits_at known ls k (omega arith)) in
     ap₂ (λ (ws : List ℕ) (w : ℕ). set ws k w) c.loop-k.invariant found
     ∙ written_more (bits known ls) a.values.now k (omega (arith, bits_length known ls)) (omega arith)
-
-pub returns : goal.returns
-returns c =
-    let a = c.args in
-    let written-bits = bits a.known.now a.literals.now in
-    c.loop-k.invariant
-    ∙ ap (λ (ws : List ℕ). written ws a.values.now)
-    (take_all c.loop-k.k written-bits (omega (arith, bits_length a.known.now a.literals.now)))

@@ -3,15 +3,10 @@
 use mathlib.Core.Path.{ap, ◌∙◌}
 use native.Mathlib.Omega.{arith}
 use lib.ListN.{length}
-use Rattle.graph.proofs.Graph.{sinks_below}
 use Rattle.graph.proofs.Marks.{each_length}
 use Rattle.checker.specs.Marks.{marks_in}
 use Rattle.checker.proofs.Marking.{marks_made}
 use Rattle.checker.proofs.usage.mark_used.Goals as goal
-
-pub mark_each-requires : goal.mark_each-requires
-mark_each-requires c =
-    rw c.outputs.ensures.value (sinks_below c.args.graph.now c.outputs.ensures.well_formed.lawful _ c.requires.marks_there)
 
 pub mark_after-requires : goal.mark_after-requires
 mark_after-requires c =

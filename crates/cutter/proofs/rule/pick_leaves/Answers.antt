@@ -45,11 +45,6 @@ loop-choice-init c =
     going_start _ _ ok.0 ok.1 _
     (same_Some _ _ (sym c.unwrap-leaves.ensures ∙ begins (goal.at.loop-choice-init c).After-with_fanins))
 
-pub best_leaf-requires : goal.best_leaf-requires
-best_leaf-requires c =
-    let ok = known (goal.at.best_leaf-requires c).After-graph-graph in
-    going_choosing _ _ ok.0 ok.1 _ c.loop-choice.invariant
-
 pub expand-requires : goal.expand-requires
 expand-requires c =
     let ok = known (goal.at.expand-requires c).After-graph-graph in

@@ -6,7 +6,6 @@ use mathlib.Core.List.{List, map}
 use Prim.Native.Nat.{ℕ, ◌≤◌}
 use native.Mathlib.Omega.{arith}
 use lib.ListN.{length, set, length-map}
-use lib.Seq.{take_all}
 use Rattle.graph.specs.Lent.{written}
 use Rattle.graph.proofs.Graph.{sinks_below}
 use Rattle.graph.proofs.Members.{map_at}
@@ -42,12 +41,3 @@ loop-k-preserved c =
     let fits : length outs ≤ length c.args.results.now = rw c.outputs-outputs.ensures.value c.requires in
     ap₂ (λ (ws : List ℕ) (w : ℕ). set ws k w) c.loop-k.invariant found
     ∙ written_more (map new outs) c.args.results.now k (omega (arith, length-map outs new)) (omega (arith, length-map outs new))
-
-pub returns : goal.returns
-returns c =
-    let r = c.args.rewiring.now in
-    let new = word r.root.0 r.proposal c.args.renumbering.now.numbers in
-    let outs = c.outputs-outputs.result.now in
-    c.loop-k.invariant
-    ∙ ap (λ (ws : List ℕ). written ws c.args.results.now)
-    (take_all c.loop-k.k (map new outs) (omega (arith, length-map outs new)) ∙ ap (map new) c.outputs-outputs.ensures.value)

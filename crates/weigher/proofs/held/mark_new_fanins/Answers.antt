@@ -1,17 +1,10 @@
 -- `weigher::held::mark_new_fanins` meets its contract: one fanin after the other is held, and they are lower, so they have marks.
 -- Assumes nothing.
-use mathlib.Core.Path.{ap, ◌∙◌}
 use native.Mathlib.Omega.{arith}
-use Rattle.graph.specs.Literal.{var_of}
-use Rattle.graph.proofs.Use.{first_lower, second_lower}
+use Rattle.graph.proofs.Use.{second_lower}
 use Rattle.checker.proofs.Marking.{marks_length}
-use Rattle.weigher.proofs.Steps.{two_held, few_held}
+use Rattle.weigher.proofs.Steps.{few_held}
 use Rattle.weigher.proofs.held.mark_new_fanins.Goals as goal
-
-pub mark_new-with_first-requires : goal.mark_new-with_first-requires
-mark_new-with_first-requires c =
-    let lower = first_lower _ c.fanins_of-gate.ensures.well_formed.lawful c.args.v.0 c.requires.0 in
-    (omega (arith, c.var.ensures, c.fanins_of-gate.ensures.first_value), omega arith)
 
 pub mark_new-requires : goal.mark_new-requires
 mark_new-requires c =
@@ -25,9 +18,3 @@ mark_new-requires c =
       ),
       omega (arith, few_held _ _ _ c.mark_new-with_first.ensures),
     )
-
-pub returns : goal.returns
-returns c =
-    let first_is = c.var.ensures ∙ ap var_of c.fanins_of-gate.ensures.first_value in
-    let second_is = c.var-2.ensures ∙ ap var_of c.fanins_of-gate.ensures.second_value in
-    two_held _ _ c.mark_new-with_first.ensures c.mark_new.ensures c.inputs-inputs.ensures.value first_is second_is

@@ -3,10 +3,8 @@
 use mathlib.Core.Path.{refl, ap, ◌∙◌}
 use mathlib.Core.Bool.{Bool, false}
 use mathlib.Core.List.{List}
-use Prim.Native.Nat.{ℕ}
 use native.Mathlib.Omega.{arith}
 use lib.ListN.{get_or, set}
-use lib.Seq.{take_all}
 use Rattle.checker.specs.Marks.{marks_in}
 use Rattle.checker.proofs.Marking.{marks_length}
 use Rattle.weigher.specs.Held.{set_each}
@@ -28,9 +26,3 @@ loop-number-preserved c =
     let k = c.loop-number.number-index in
     let next = set_each_next false listed k (marks_in c.args.marks.now) (omega arith) in
     c.put_mark.ensures ∙ ap (λ (ns : List Bool). set ns (get_or listed k 0) false) c.loop-number.invariant ∙ next
-
-pub returns : goal.returns
-returns c =
-    c.loop-number.invariant
-    ∙ ap (λ (vs : List ℕ). set_each false vs (marks_in c.args.marks.now))
-    (take_all c.loop-number.number-index c.args.listed.now (omega arith))

@@ -1,7 +1,7 @@
 -- `writer::decimal::put_decimal` meets its contract: laying the digits that are left over those stored lays the whole decimal.
 -- The measure is what is left.
 -- Assumes nothing.
-use mathlib.Core.Path.{◌≡◌, refl, ap, ◌∙◌}
+use mathlib.Core.Path.{◌≡◌, ap, ◌∙◌}
 use mathlib.Core.List.{[], ◌∷◌}
 use Prim.Native.Nat.{◌+◌, ◌-◌, ◌/◌, ◌%◌}
 use native.Mathlib.Omega.{arith}
@@ -10,9 +10,6 @@ use Rattle.text.specs.Number.{digit, decimal}
 use Rattle.text.proofs.Number.{decimal_one, decimal_more, decimal_longer}
 use Rattle.graph.proofs.Lent.{laid_last, put_bytes}
 use Rattle.writer.proofs.decimal.put_decimal.Goals as goal
-
-pub loop-left-init : goal.loop-left-init
-loop-left-init c = (omega arith, omega arith, refl, refl)
 
 pub overflow_sub-place : goal.overflow_sub-place
 overflow_sub-place c = omega (arith, decimal_longer c.loop-left.left c.loop-left-test.true)
@@ -36,9 +33,6 @@ loop-left-preserved c =
 
 pub bounds-bytes-at : goal.bounds-bytes-at
 bounds-bytes-at c = omega (arith, ap length (decimal_one _ c.loop-left-test.false))
-
-pub shape_of-bytes : goal.shape_of-bytes
-shape_of-bytes c = simp length-set c.loop-left.invariant.2
 
 pub returns : goal.returns
 returns c =

@@ -17,11 +17,6 @@ returns-then-out-eq-LEAF_LIMIT c =
     omega (arith, ap length e, ap length more, length-append zs (numbers (drop c.loop-v.v-index c.args.rest.now)), tidy_count t) in
     sym (fits_not _ over)
 
-pub push-out-requires : goal.push-out-requires
-push-out-requires c =
-    let (t, e) = c.loop-v.invariant in
-    (t, omega (arith, t.few))
-
 pub loop-v-preserved : goal.loop-v-preserved
 loop-v-preserved c =
     let (t, e) = c.loop-v.invariant in
