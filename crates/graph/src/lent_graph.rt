@@ -69,7 +69,7 @@ impl<'a> LentGraph<'a> {
         self.inputs + self.gates.len() / 2
     }
 
-    // The two literals of v's gate: here a word becomes a literal.
+    // The two literals of v's gate: here a word becomes a literal. It asks for few inputs alone, so that a graph can be read while it is judged.
     #[tactic(auto, unfolding(crate::specs::Graph::first, crate::specs::Graph::second))]
     pub fn fanins_of(&self, v: Var) -> Fanins
         requires { (free self.now.net ≤ most_inputs) × IsGate self.now.net v.0 }

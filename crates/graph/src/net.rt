@@ -70,7 +70,7 @@ impl<'a> Net<'a> {
         LentGraph::new(self.inputs, self.gates, &[])
     }
 
-    // The two literals of v's gate.
+    // The two literals of v's gate. That v is a gate stays in clauses: a type that says so would carry the net along with each variable.
     pub fn fanins_of(&self, v: Var) -> Fanins
         requires { IsGate self.now v.0 }
         ensures first_value { result.first.0 ≡ first self.now v.0 }

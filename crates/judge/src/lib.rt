@@ -16,48 +16,54 @@ use graph::{LentGraph, Lit, MOST_VARIABLES, Refusal, Var};
 use replacement::Proposal;
 use window::{LeafWindow, Leaves, Table};
 
-// The literal's variable is below the root and covered; `covers` says which variables are.
-#[tactic(auto, unfolding(replacement::specs::Proposal::divides))]
-fn divides(covers: &[bool], root: Var, l: Lit) -> bool
-    requires { root.0 < length covers.now }
-    ensures { result ≡ divides (λ v. get_or covers.now v false) root.0 l.0 }
-{
-    l.var() < root && covers[l.var().at()]
+// What a proposal may draw on: the covered variables below a root.
+#[derive(Clone, Copy)]
+struct Divisors<'a> {
+    covers: &'a [bool],
+    root: Var,
+    ghost within: { root.0 < length covers.now },
+}
+
+impl<'a> Divisors<'a> {
+    // The literal's variable is one of them.
+    #[tactic(auto, unfolding(replacement::specs::Proposal::divides))]
+    fn have(&self, l: Lit) -> bool
+        ensures { result ≡ divides (λ v. get_or self.now.covers.now v false) self.now.root.0 l.0 }
+    {
+        l.var() < self.root && self.covers[l.var().at()]
+    }
 }
 
 // The rule of kind 0: a literal whose variable divides the root, and the other fields are 0.
 #[tactic(auto, unfolding(replacement::specs::Proposal::literal_rules, graph::specs::Lists::every))]
-fn is_literal(covers: &[bool], root: Var, proposal: Proposal) -> bool
-    requires { root.0 < length covers.now }
-    ensures { result ≡ every (literal_rules (λ v. get_or covers.now v false) root.0 proposal) }
+fn is_literal(divisors: &Divisors, proposal: Proposal) -> bool
+    ensures { result ≡ every (literal_rules (λ v. get_or divisors.now.covers.now v false) divisors.now.root.0 proposal) }
 {
-    proposal.second.0 == 0 && proposal.turned == 0 && divides(covers, root, proposal.first)
+    proposal.second.0 == 0 && proposal.turned == 0 && divisors.have(proposal.first)
 }
 
 // The rule of kind 1: two literals whose variables divide the root, neither of them 0, the second's below the first's; turned is 0 or 1.
 #[tactic(auto, unfolding(replacement::specs::Proposal::and_rules, graph::specs::Lists::every))]
-fn is_and(covers: &[bool], root: Var, proposal: Proposal) -> bool
-    requires { root.0 < length covers.now }
-    ensures { result ≡ every (and_rules (λ v. get_or covers.now v false) root.0 proposal) }
+fn is_and(divisors: &Divisors, proposal: Proposal) -> bool
+    ensures { result ≡ every (and_rules (λ v. get_or divisors.now.covers.now v false) divisors.now.root.0 proposal) }
 {
     let first = proposal.first.var();
     let second = proposal.second.var();
     Var(0) < second
         && second < first
         && proposal.turned <= 1
-        && divides(covers, root, proposal.first)
-        && divides(covers, root, proposal.second)
+        && divisors.have(proposal.first)
+        && divisors.have(proposal.second)
 }
 
-// The proposal keeps its kind's rule; `covers` says which variables are covered.
+// The proposal keeps its kind's rule.
 #[tactic(auto, unfolding(replacement::specs::Proposal::keeps_rule))]
-fn keeps_rule(covers: &[bool], root: Var, proposal: Proposal) -> bool
-    requires { root.0 < length covers.now }
-    ensures { result ≡ keeps_rule (λ v. get_or covers.now v false) root.0 proposal }
+fn keeps_rule(divisors: &Divisors, proposal: Proposal) -> bool
+    ensures { result ≡ keeps_rule (λ v. get_or divisors.now.covers.now v false) divisors.now.root.0 proposal }
 {
     match proposal.kind {
-        0 => is_literal(covers, root, proposal),
-        1 => is_and(covers, root, proposal),
+        0 => is_literal(divisors, proposal),
+        1 => is_and(divisors, proposal),
         _ => false,
     }
 }
@@ -68,7 +74,11 @@ fn is_allowed(window: &LeafWindow, proposal: Proposal) -> bool
 {
     let mut covers = [false; MOST_VARIABLES];
     cover(window, &mut covers);
-    keeps_rule(&covers, window.root, proposal)
+    let divisors = Divisors {
+        covers: &covers,
+        root: window.root,
+    };
+    keeps_rule(&divisors, proposal)
 }
 
 // The proposal's table, where `tables` has those of its variables.

@@ -1,4 +1,5 @@
 // Replacing a root: the call that judges a proposal and makes the finished graph. All is judged before the first word is stored.
+// `words, results` stay two: of slices lent in a struct of both, a caller would know nothing afterwards.
 #![tactic(auto)]
 
 mod finish;
