@@ -84,11 +84,10 @@ module _ (net : Net) (k : ℕ) where
 
 module _ (net : Net) (ms : List Bool) where
   -- the mark of one gate more, as a cast gives it
-  pub count_more : (k : ℕ) → count_marks net ms k + bool_byte (get_or ms (free net + k + 1) false) ≡ count_marks net ms (k + 1)
+  pub count_more : (k : ℕ) → count_marks net ms k + bool_byte (get_or ms (suc (free net + k)) false) ≡ count_marks net ms (k + 1)
   unfolding count_marks
   count_more k =
-      let e : free net + k + 1 ≡ suc (free net + k) = omega arith in
-      rw (add-one k, e) (ap (λ (n : ℕ). count_marks net ms k + n) (cast_is (get_or ms (suc (free net + k)) false)))
+      rw (add-one k) (ap (λ (n : ℕ). count_marks net ms k + n) (cast_is (get_or ms (suc (free net + k)) false)))
 
   -- lists that hold the same marks of gates have the same number of them
   pub count_same : (ms' : List Bool) → ((v : ℕ) → IsGate net v → get_or ms v false ≡ get_or ms' v false)

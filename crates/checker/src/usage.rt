@@ -36,7 +36,7 @@ pub fn mark_after(net: &Net, from: usize, stop: usize, marks: &mut [bool])
     ensures { marks_in marks.new ≡ mark_after net.now stop (from - stop) (marks_in marks.old) }
 {
     for k in (stop..from).rev() {
-        mark_fanins(net, Var((net.inputs() + k + 1) as u32), marks);
+        mark_fanins(net, net.gate(k), marks);
     }
 }
 
@@ -75,7 +75,7 @@ fn count_marks(net: &Net, marks: &[bool]) -> usize
 {
     let mut found = 0;
     for k in 0..net.size() {
-        let v = Var((net.inputs() + k + 1) as u32);
+        let v = net.gate(k);
         found += has_mark(marks, v) as usize;
     }
     found

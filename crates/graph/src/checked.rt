@@ -1,4 +1,4 @@
-// A lent graph that is well formed: whoever has one knows that it is.
+// A lent graph that is well formed: whoever has one knows that it is. As a net, it holds the slices themselves.
 ghost use Rattle.std.specs.Prelude.{◌≡◌};
 ghost use Rattle.graph.specs.Graph.{graph_of, free, size, last, sinks, WellFormed};
 

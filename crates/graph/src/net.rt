@@ -1,5 +1,6 @@
-// The inputs and gates of a lent graph, where they keep the rules: whoever has a net knows that they do.
-ghost use Rattle.std.specs.Prelude.{◌≡◌, []};
+// The inputs and gates of a lent graph, where they keep the rules: whoever has a net knows that they do. Each method says so once more,
+// since a proof learns what a type says from a call. No LentGraph is held: a type with a model cannot be copied out of a borrow.
+ghost use Rattle.std.specs.Prelude.{◌≡◌, ◌<◌, ◌+◌, [], suc};
 ghost use Rattle.graph.specs.Graph.{net_of, over, free, size, last, first, second, IsGate, WellFormedNet};
 
 use crate::gate::Fanins;
@@ -60,6 +61,15 @@ impl<'a> Net<'a> {
         ensures well_formed { WellFormedNet self.now }
     {
         self.inputs + self.gates.len() / 2
+    }
+
+    // Gate k's variable, from gate 0 on.
+    pub fn gate(&self, k: usize) -> Var
+        requires { k < size self.now }
+        ensures value { result.0 ≡ suc (free self.now + k) }
+        ensures well_formed { WellFormedNet self.now }
+    {
+        Var((self.inputs + k + 1) as u32)
     }
 
     // The same inputs and gates, as a lent graph without outputs.

@@ -73,7 +73,7 @@ pub fn put_gates(rewiring: &Rewiring, marks: &[bool], renumbering: &Renumbering,
     let net = rewiring.graph.net();
     let mut at = 0;
     for k in 0..net.size() {
-        let v = Var((net.inputs() + k + 1) as u32);
+        let v = net.gate(k);
         at = put_kept(rewiring, v, marks, renumbering, words, at);
     }
 }

@@ -61,7 +61,7 @@ unfolding output_numbers
 output_lines os = flat_map_singles line (λ j. get_or os j 0 ∷ []) (length os)
 
 abbrev pub gate_line : Net → ℕ → List ℕ
-gate_line net k = line (numbers_of_gate net (free net + k + 1) false)
+gate_line net k = line (numbers_of_gate net (suc (free net + k)) false)
 
 -- the gate lines of the text have the larger right side first
 abbrev pub gate_part : Net → List ℕ
@@ -69,9 +69,7 @@ gate_part net = lines (gate_numbers net (λ k. false))
 
 pub gate_lines : (net : Net) → gate_part net ≡ gather (gate_line net) (size net)
 unfolding gate_numbers
-gate_lines net =
-    flat_map_singles line (λ k. numbers_of_gate net (suc (free net + k)) false) (size net)
-    ∙ gather_same _ _ (size net) (λ k h. rw (add-one (free net + k)))
+gate_lines net = flat_map_singles line (λ k. numbers_of_gate net (suc (free net + k)) false) (size net)
 
 -- ---- the whole text
 

@@ -67,7 +67,7 @@ fn put_gates(bytes: &mut [u8], at: usize, net: &Net) -> usize
 {
     let mut next = at;
     for k in 0..net.size() {
-        let own = Var((net.inputs() + k + 1) as u32);
+        let own = net.gate(k);
         let gate = net.fanins_of(own);
         next = put_line(bytes, next, &[own.plain().0, gate.first.0, gate.second.0]);
     }

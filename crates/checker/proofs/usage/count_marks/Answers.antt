@@ -14,7 +14,7 @@ use Rattle.checker.proofs.usage.count_marks.Goals.{After-has_mark}
 -- one gate more is counted
 more : (c : After-has_mark) → c.loop-k.found + bool_byte c.has_mark.result
     ≡ count_marks c.args.net.now (marks_in c.args.marks.now) (c.loop-k.k + 1)
-more c = rw (c.has_mark.ensures, c.inputs.ensures.value, c.loop-k.invariant) (count_more _ _ _)
+more c = rw (c.has_mark.ensures, c.gate-v.ensures.value, c.loop-k.invariant) (count_more _ _ _)
 
 pub loop-k-init : goal.loop-k-init
 unfolding count_marks

@@ -21,8 +21,8 @@ module _ (net known : Net) (is : known ≡ net) (root : ℕ) (p : Proposal) wher
   sizes = rewired_size net root p ∙ ap (λ (n : Net). size n) (sym is)
 
   -- a gate's variable has its place after the inputs
-  place : {inputs : ℕ} → inputs ≡ free known → (k : ℕ) → inputs + k + 1 ≡ suc (free (rewired_net net root p) + k)
-  place inputs k = omega (arith, rewired_free net root p, ap (λ (n : Net). free n) is)
+  place : (k : ℕ) {v : ℕ} → v ≡ suc (free known + k) → v ≡ suc (free (rewired_net net root p) + k)
+  place k e = omega (arith, e, rewired_free net root p, ap (λ (n : Net). free n) is)
 
 pub loop-k-init : goal.loop-k-init
 unfolding kept_gates
@@ -35,14 +35,14 @@ pub put_kept-at-requires-clause-room : goal.put_kept-at-requires-clause-room
 put_kept-at-requires-clause-room c =
     let r = c.args.rewiring.now in
     let all = sizes r.graph.now.net _ c.net-net.ensures.value r.root.0 r.proposal in
-    let at = place r.graph.now.net _ c.net-net.ensures.value r.root.0 r.proposal c.inputs.ensures.value c.loop-k.k in
+    let at = place r.graph.now.net _ c.net-net.ensures.value r.root.0 r.proposal c.loop-k.k c.gate-v.ensures.value in
     rw at (piece_room c.loop-k.invariant (omega arith))
 
 pub loop-k-preserved : goal.loop-k-preserved
 loop-k-preserved c =
     let r = c.args.rewiring.now in
     let all = sizes r.graph.now.net _ c.net-net.ensures.value r.root.0 r.proposal in
-    let at = place r.graph.now.net _ c.net-net.ensures.value r.root.0 r.proposal c.inputs.ensures.value c.loop-k.k in
+    let at = place r.graph.now.net _ c.net-net.ensures.value r.root.0 r.proposal c.loop-k.k c.gate-v.ensures.value in
     let put = c.put_kept-at.ensures in
     piece_then c.loop-k.invariant (omega arith) (rw at at put.value, rw at at put.words_after)
 

@@ -14,10 +14,10 @@ loop-k-init c =
 
 pub put_line-next-requires : goal.put_line-next-requires
 put_line-next-requires c =
-    rw (c.plain.ensures, c.fanins_of-gate.ensures.first_value, c.fanins_of-gate.ensures.second_value, c.inputs.ensures.value)
+    rw (c.plain.ensures, c.fanins_of-gate.ensures.first_value, c.fanins_of-gate.ensures.second_value, c.gate-own.ensures.value)
     (piece_room c.loop-k.invariant (omega arith))
 
 pub loop-k-preserved : goal.loop-k-preserved
 loop-k-preserved c =
-    let put = rw (c.plain.ensures, c.fanins_of-gate.ensures.first_value, c.fanins_of-gate.ensures.second_value, c.inputs.ensures.value) at c.put_line-next.ensures in
+    let put = rw (c.plain.ensures, c.fanins_of-gate.ensures.first_value, c.fanins_of-gate.ensures.second_value, c.gate-own.ensures.value) at c.put_line-next.ensures in
     piece_then c.loop-k.invariant (omega arith) (put.value, put.bytes_after)
