@@ -1,5 +1,6 @@
 // The public calls on numbers and slices, as programs in other languages have them by `exports_c`. Each answers the refusal's number, which
-// is 0 where the call is accepted; what else it answers goes through references, which a refusal leaves as they were.
+// is 0 where the call is accepted; what else it answers goes through references, which a refusal leaves as they were. Each call's answer has
+// parts and places of its own, so each has its own `match`.
 #![tactic(auto)]
 
 ghost use Rattle.std.specs.Prelude.{◌≡◌, [], ◌∷◌};
