@@ -16,6 +16,9 @@ pub struct Choice {
     pub count: usize,
 }
 
+// Over a lent graph, as `expanded_count`, `with_fanins` and `expand` of `Leaves` are: docs/CONTRACTS.md names them so, and the last two ask
+// less than a `Net` says. So `pick_leaves` makes one of its net.
+
 // The better of `best` and the expansion of v, if v is a gate: the smaller, v's on ties. One of more than six leaves is none.
 fn better(leaves: Leaves, graph: &LentGraph, v: Var, best: Option<Choice>) -> Option<Choice>
     requires { Choosing graph.now.net leaves × (v.0 ∈ leaf_list leaves) }
