@@ -39,11 +39,10 @@ fn best_leaf(leaves: Leaves, graph: &LentGraph) -> Option<Choice>
     requires { Choosing graph.now.net leaves }
     ensures { result ≡ best graph.now.net (leaf_list leaves) (leaf_list leaves) None }
 {
-    let mut best = None;
-    for &v in leaves.as_slice() {
-        best = better(leaves, graph, v, best);
-    }
-    best
+    leaves
+        .as_slice()
+        .iter()
+        .fold(None, |best, &v| better(leaves, graph, v, best))
 }
 
 // The leaf rule: the smallest expansion is taken until there is none. A variable that gave way can come back, so no number of gates
