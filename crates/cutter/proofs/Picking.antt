@@ -2,7 +2,7 @@
 -- Assumes nothing.
 use mathlib.Core.Path.{◌≡◌, refl, sym, ap, ◌∙◌, subst}
 use mathlib.Core.Bool.{Bool, true, false, cond}
-use mathlib.Core.List.{List, [], ◌∷◌}
+use mathlib.Core.List.{List, [], ◌∷◌, ◌++◌}
 use mathlib.Core.Logic.{◌⊎◌, inl, inr, ⊎_elim}
 use Prim.Native.Nat.{ℕ, ◌≤◌, ◌<◌}
 use native.Mathlib.Nat.{le_refl, le_trans, le_of_lt}
@@ -11,10 +11,12 @@ use borrow.Author.Tests.{leb-true, leb-false, le-leb, lt-leb}
 use lib.Dec.{leb}
 use lib.ListN.{length, get_or}
 use Rattle.std.specs.Prelude.{Option, Some, None}
+use Rattle.std.proofs.lemmas.List.{map_push}
 use Rattle.std.proofs.lemmas.Option.{none-some, same_Some}
 use Rattle.graph.specs.Lists.{◌∈◌, here, later}
 use Rattle.graph.specs.Graph.{Net, Graph, free, WellFormedNet, IsGate}
 use Rattle.graph.specs.declared.lit.Var.{Var}
+use Rattle.graph.proofs.Lists.{get_or_within}
 use Rattle.graph.proofs.Members.{place_of, at_place, in_same}
 use Rattle.window.specs.declared.leaf_set.Leaves.{Leaves}
 use Rattle.window.specs.Leaves.{leaf_limit, numbers, leaf_list, leaves_of, ascends_from}
@@ -153,20 +155,22 @@ module _ (net : Net) (xs : List ℕ) where
   decided_off (none_left e n) h = n
   decided_off (chosen e f c) h = absurd (none-some _ (sym h ∙ e))
 
-  -- leaf by leaf
-  pub best_next : (v : ℕ) (vs : List ℕ) (c : Option Choice) → best net xs (v ∷ vs) c ≡ best net xs vs (better net xs c v)
+  -- with one leaf more
+  best_more : (vs : List ℕ) (v : ℕ) (c : Option Choice) → best net xs (vs ++ v ∷ []) c ≡ better net xs (best net xs vs c) v
   unfolding best
-  best_next v vs c = refl
+  best_more [] v c = refl
+  best_more (u ∷ us) v c = best_more us v (better net xs c u)
 
-  pub best_done : (c : Option Choice) → best net xs [] c ≡ c
-  unfolding best
-  best_done c = refl
+  pub best_push : (vs : List Var) (v : Var) → best net xs (numbers (vs ++ v ∷ [])) None ≡ better net xs (best net xs (numbers vs) None) v.0
+  unfolding numbers
+  best_push vs v = ap (λ (us : List ℕ). best net xs us None) (map_push (λ (u : Var). u.0) vs v) ∙ best_more (numbers vs) v.0 None
 
--- a leaf that stands at a place is one of them
-pub leaf_in : (w : Leaves) (vs : List Var) → numbers vs ≡ leaf_list w → (k : ℕ) → k < length vs → (get_or vs k (record { 0 = 0 })).0 ∈ leaf_list w
-leaf_in w vs e k h =
-    subst (λ (xs : List ℕ). (get_or vs k (record { 0 = 0 })).0 ∈ xs) e
-    (in_same (numbers_at vs k) (at_place 0 (numbers vs) k (omega (arith, numbers_long vs))))
+-- a variable that stands at a place of the leaves is one of them
+pub leaf_in : (w : Leaves) (vs : List Var) → numbers vs ≡ leaf_list w → (k : ℕ) → k < length vs → (v : Var) → v ≡ get_or vs k v → v.0 ∈ leaf_list w
+leaf_in w vs e k h v at =
+    let same : v.0 ≡ get_or (numbers vs) k 0 =
+    ap (λ (u : Var). u.0) (at ∙ get_or_within vs k v (record { 0 = 0 }) h) ∙ numbers_at vs k in
+    subst (λ (xs : List ℕ). v.0 ∈ xs) e (in_same same (at_place 0 (numbers vs) k (omega (arith, numbers_long vs))))
 
 -- ---- the turns of the rule
 

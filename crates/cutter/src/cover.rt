@@ -48,7 +48,8 @@ impl Swept for Coverage {
     }
 }
 
-// Which of the variables 0 to the root are covered stands at the front of `covers`.
+// Which of the variables 0 to the root are covered stands at the front of `covers`: a slice, so that a list of any length with a place for
+// each of them will do (docs/CONTRACTS.md); an array would ask for one length.
 #[tactic(auto, using(crate::proofs::Sweeping::covered_swept))]
 pub fn cover(window: &LeafWindow, covers: &mut [bool])
     requires { window.now.root.0 < length covers.old }
@@ -57,7 +58,8 @@ pub fn cover(window: &LeafWindow, covers: &mut [bool])
     sweep::<Coverage>(window, covers);
 }
 
-// The leaves cut the root: it is covered.
+// The leaves cut the root: it is covered. Its array is its own, as that of `root_table` is: for both over any algebra it would be one of a
+// type parameter's values, and nothing says that such an array fits memory.
 #[tactic(auto, using(crate::proofs::Sweeping::covered_at))]
 pub fn is_cut(window: &LeafWindow) -> bool
     ensures { result ≡ covered window.now.net.now window.now.leaves window.now.root.0 }

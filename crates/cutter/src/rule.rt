@@ -16,6 +16,9 @@ pub struct Choice {
     pub count: usize,
 }
 
+// Over a lent graph, as `expanded_count`, `with_fanins` and `expand` of `Leaves` are: docs/CONTRACTS.md names them so, and the last two ask
+// less than a `Net` says. So `pick_leaves` makes one of its net.
+
 // The better of `best` and the expansion of v, if v is a gate: the smaller, v's on ties. One of more than six leaves is none.
 fn better(leaves: Leaves, graph: &LentGraph, v: Var, best: Option<Choice>) -> Option<Choice>
     requires { Choosing graph.now.net leaves × (v.0 ∈ leaf_list leaves) }
@@ -36,11 +39,10 @@ fn best_leaf(leaves: Leaves, graph: &LentGraph) -> Option<Choice>
     requires { Choosing graph.now.net leaves }
     ensures { result ≡ best graph.now.net (leaf_list leaves) (leaf_list leaves) None }
 {
-    let mut best = None;
-    for &v in leaves.as_slice() {
-        best = better(leaves, graph, v, best);
-    }
-    best
+    leaves
+        .as_slice()
+        .iter()
+        .fold(None, |best, &v| better(leaves, graph, v, best))
 }
 
 // The leaf rule: the smallest expansion is taken until there is none. A variable that gave way can come back, so no number of gates

@@ -48,7 +48,7 @@ fn swept_value<A: Swept>(
     gate_value::<A>(window.net, values, v)
 }
 
-// What the variables 0 to the root have stands at the front of `values`.
+// What the variables 0 to the root have stands at the front of `values`, a slice as in `cover` and `fill_tables`, which it is for.
 pub fn sweep<A: Swept>(window: &LeafWindow, values: &mut [A::Value])
     requires { window.now.root.0 < length values.old }
     ensures { values.new

@@ -9,7 +9,8 @@ use crate::sweep::{Swept, sweep};
 use graph::{Algebra, Lit, MOST_VARIABLES, Var, literal_value};
 use window::{LeafWindow, Table};
 
-// Tables as the words that lent memory holds: a leaf has its pattern, and an input that is none has all bits 0.
+// Tables as words: a leaf has its pattern, and an input that is none has all bits 0. Words, since contracts speak of lists of numbers
+// (`words_up_to`); of lists of `Table` each of them would first have to take the words out.
 struct Words;
 
 impl Algebra for Words {
@@ -48,7 +49,7 @@ impl Swept for Words {
     }
 }
 
-// The table that lent words hold of variable v.
+// The table of variable v.
 pub fn table_at(tables: &[u64], v: Var) -> Table
     requires { v.0 < length tables.now }
     ensures { result.0 ≡ get_or tables.now v.0 0 }
@@ -64,7 +65,7 @@ pub fn literal_table(tables: &[u64], l: Lit) -> Table
     Table(literal_value::<Words>(tables, l))
 }
 
-// The tables of the variables 0 to the root stand at the front of `tables`.
+// The tables of the variables 0 to the root stand at the front of `tables`, a slice as in `cover`.
 #[tactic(auto, using(crate::proofs::Sweeping::words_swept))]
 pub fn fill_tables(window: &LeafWindow, tables: &mut [u64])
     requires { window.now.root.0 < length tables.old }
@@ -73,7 +74,7 @@ pub fn fill_tables(window: &LeafWindow, tables: &mut [u64])
     sweep::<Words>(window, tables);
 }
 
-// The root's own table.
+// The root's own table, from an array of its own, as in `is_cut`.
 #[tactic(auto, using(crate::proofs::Sweeping::table_in))]
 pub fn root_table(window: &LeafWindow) -> Table
     ensures { result.0 ≡ table window.now.net.now window.now.leaves window.now.root.0 }

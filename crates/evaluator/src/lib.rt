@@ -45,6 +45,7 @@ fn put_values(literals: &[u32], known: &[bool], values: &mut [u32])
     ensures { values.new
         ≡ written (map (λ b. cond b 1 0) (map (lit_value bools known.now) literals.now)) values.old }
 {
+    // By places: nothing is known of a list once `iter_mut().zip(..)` has gone over it.
     for (k, literal) in literals.iter().enumerate() {
         values[k] = literal_value::<Bools>(known, Lit(*literal)) as u32;
     }

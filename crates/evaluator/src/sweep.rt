@@ -1,4 +1,5 @@
-// The values of all variables, in one ascending sweep.
+// The values of all variables, in one ascending sweep. Its own, beside cutter's: it has no leaves and no root, goes over the whole net, and
+// takes the values of inputs from an assignment (docs/DECISIONS.md, 51).
 ghost use Rattle.std.specs.Prelude.{◌≡◌, ◌<◌, ◌≤◌, length};
 ghost use Rattle.graph.specs.Literal.{var_of};
 ghost use Rattle.graph.specs.Lent.{written};
@@ -41,6 +42,7 @@ fn put_inputs(assignment: &[u32], known: &mut [bool])
     ensures { known.new ≡ written (input_values assignment.now) known.old }
 {
     known[0] = false;
+    // By places: nothing is known of a list once `iter_mut().zip(..)` has gone over it.
     for (k, value) in assignment.iter().enumerate() {
         known[k + 1] = *value == 1;
     }

@@ -40,6 +40,7 @@ impl Proposal {
     }
 
     // What a literal becomes: a reference to the root is redirected, and complemented where it was.
+    // `Wires` stays a clause: this is a method of any proposal (docs/CONTRACTS.md). One that has it already is in replacer's `Rewiring`.
     #[tactic(auto, using(crate::proofs::Rewire::redirected_root, crate::proofs::Rewire::redirected_other))]
     pub fn redirected(self, root: Var, l: Lit) -> Lit
         requires { Wires root.0 self × (root.0 < 2 ^ 30) }

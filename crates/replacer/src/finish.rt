@@ -15,7 +15,7 @@ use checker::marks::{has_mark, put_mark};
 use graph::{Fanins, Lit, MOST_VARIABLES, Var};
 use weigher::held::mark_reached;
 
-// Beside the marks past the root, marks what is in use once it is replaced.
+// Beside the marks past the root, marks what is in use once it is replaced. `marks, list` stay two, as in weigher's `mark_reached`.
 pub fn mark_kept(rewiring: &Rewiring, marks: &mut [bool], list: &mut [u32])
     requires { WalkRoom rewiring.now.graph.now.net (marks_in marks.old) list.old }
     ensures { KeptPast rewiring.now.graph.now.net (marks_in marks.old) rewiring.now.root.0 rewiring.now.proposal
@@ -29,7 +29,8 @@ pub fn mark_kept(rewiring: &Rewiring, marks: &mut [bool], list: &mut [u32])
     }
 }
 
-// The two words of a gate by the new numbers go to place `at`; the place after them.
+// The two words of a gate by the new numbers go to place `at`; the place after them. Its two assignments
+// are like those of reader's `store_gate`; a function for both would be no shorter than they are.
 fn put_gate(words: &mut [u32], at: usize, gate: Fanins, renumbering: &Renumbering) -> usize
     requires at_in_bounds { suc at < length words.old }
     requires first_in_bounds { (var_of gate.first.0 < MOST_VARIABLES) × (var_of gate.second.0 < MOST_VARIABLES) }
@@ -86,6 +87,7 @@ pub fn put_outputs(rewiring: &Rewiring, renumbering: &Renumbering, results: &mut
         results.old }
 {
     let outputs = rewiring.graph.outputs();
+    // By places: nothing is known of a list once `iter_mut().zip(..)` has gone over it.
     for (k, &output) in outputs.iter().enumerate() {
         let l = rewiring.redirected(Lit(output));
         results[k] = renumbering.renumbered(l).0;

@@ -7,7 +7,8 @@ ghost use Rattle.replacement.proofs.Rewire.{Wires-prop};
 use graph::{CheckedGraph, Fanins, Lit, Var};
 use replacement::Proposal;
 
-// A gate of a well-formed graph, and the proposal that is to stand for it.
+// A gate of a well-formed graph, and the proposal that is to stand for it: with its kind as a number, since `redirected` and `rewired_net`
+// are defined over a `Proposal`.
 #[derive(Clone, Copy)]
 pub struct Rewiring<'a> {
     pub graph: &'a CheckedGraph<'a>,

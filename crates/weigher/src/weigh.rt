@@ -1,4 +1,4 @@
-// The gain of a proposal, by the marks past its root.
+// The gain of a proposal, by the marks past its root. `marks, list` stay two, as in `held`.
 ghost use Rattle.std.specs.Prelude.{◌≡◌, ◌≤◌};
 ghost use Rattle.graph.specs.Literal.{var_of};
 ghost use Rattle.graph.specs.Graph.{last, IsGate};

@@ -1,34 +1,34 @@
--- `cutter::rule::best_leaf` meets its contract: with the leaves from the next one on it comes to the best of all.
+-- `cutter::rule::best_leaf` meets its contract: with each leaf it comes to the best of those so far.
 -- Assumes nothing.
-use Rattle.std.proofs.Common.{ℕ, ◌+◌, List, get_or, drop, Option, None, sym, ap, ◌∙◌}
+use Rattle.std.proofs.Common.{◌≡◌, ℕ, List, None, refl, ap, ◌∙◌, rules}
+use Rattle.std.proofs.lemmas.Fn.{fold_over, serves_by, slice_gives, fronts}
+use Rattle.std.proofs.lemmas.Iterator.{YieldsList-from_slice}
+use Rattle.std.proofs.lemmas.Iterator.Consumers.{YieldsList-turn}
+use Rattle.graph.specs.Lists.{◌∈◌}
+use Rattle.graph.specs.declared.lit.Var.{Var}
 use Rattle.window.specs.Leaves.{numbers, leaf_list}
-use Rattle.window.proofs.Along.{rest_more, rest_end}
-use Rattle.cutter.specs.declared.rule.Choice.{Choice}
-use Rattle.cutter.specs.Picking.{best}
-use Rattle.cutter.proofs.Picking.{leaf_in, best_next, best_done}
+use Rattle.cutter.specs.Picking.{best, Choosing}
+use Rattle.cutter.proofs.Picking.{leaf_in, best_push}
 use Rattle.cutter.proofs.rule.best_leaf.Goals as goal
 
-pub better-best-requires : goal.better-best-requires
-better-best-requires c =
-    (c.requires, leaf_in c.args.leaves _ c.as_slice-v-items.ensures c.loop-v.v-index c.loop-v-test.true)
-
-pub loop-v-preserved : goal.loop-v-preserved
-loop-v-preserved c =
-    let net = c.args.graph.now.net in
-    let xs = leaf_list c.args.leaves in
-    let leaves = c.as_slice-v-items.result.now in
-    let k = c.loop-v.v-index in
-    ap (λ (b : Option Choice). best net xs (numbers (drop (k + 1) leaves)) b) c.better-best.ensures
-    ∙ sym (best_next net xs (get_or leaves k (record { 0 = 0 })).0 (numbers (drop (k + 1) leaves)) c.loop-v.best)
-    ∙ ap (λ (vs : List ℕ). best net xs vs c.loop-v.best) (sym (rest_more leaves k c.loop-v-test.true))
-    ∙ c.loop-v.invariant
+-- each turn is at a leaf, and changes neither the leaves nor the graph
+pub fold-requires-clause-callable : goal.fold-requires-clause-callable
+fold-requires-clause-callable c =
+    serves_by _ (λ xs q. (q.0.0.now ≡ c.args.leaves) × (q.0.1 ≡ c.args.graph)) (λ xs q x w j r. search rules) _ _ _ _ (refl, refl)
+    (λ xs t q x u y e j.
+    let at = YieldsList-turn (YieldsList-from_slice _ refl) xs t y _ u x refl e in
+    let choosing : Choosing q.0.1.now.net q.0.0.now = rw (j.0, j.1) c.requires in
+    let leaf : x.now.0 ∈ leaf_list q.0.0.now =
+    rw j.0 (leaf_in c.args.leaves _ (ap numbers c.iter.ensures.rest ∙ c.as_slice.ensures) _ at.0 x.now at.1) in
+    search rules)
 
 pub returns : goal.returns
+unfolding best numbers
 returns c =
     let net = c.args.graph.now.net in
     let xs = leaf_list c.args.leaves in
-    let leaves = c.as_slice-v-items.result.now in
-    sym (best_done net xs c.loop-v.best)
-    ∙ ap (λ (vs : List ℕ). best net xs vs c.loop-v.best) (sym (rest_end leaves c.loop-v.v-index c.loop-v-test.false))
-    ∙ c.loop-v.invariant
-    ∙ ap (λ (vs : List ℕ). best net xs vs None) c.as_slice-v-items.ensures
+    fold_over fronts (λ y. y.now) _ (λ ys b. b ≡ best net xs (numbers ys) None) _
+    (λ ys a x b f' j k. let more = best_push net xs ys x.now in search rules)
+    _ _ _ _ (slice_gives c.iter.result) refl c.fold.ensures.ran
+    ∙ ap (λ (vs : List Var). best net xs (numbers vs) None) c.iter.ensures.rest
+    ∙ ap (λ (vs : List ℕ). best net xs vs None) c.as_slice.ensures
