@@ -43,6 +43,7 @@ impl Leaves {
     }
 
     // The leaves ascend from 1 on, and each is below the root.
+    // A loop by hand: `is_sorted_by` would need a second walk, since the leaves are also above 0 and below the root.
     fn ascends(self, root: Var) -> bool
         ensures { result ≡ ascends_from 0 (leaf_list self) && all (λ v. ltb v root.0) (leaf_list self) }
     {
@@ -103,17 +104,12 @@ impl Leaves {
         ensures { result ≡ grown_of (put v.0 (leaf_list self)) }
     {
         let leaves = self.as_slice();
-        let mut out = Leaves::none();
-        for (k, &x) in leaves.iter().enumerate() {
-            if v < x {
-                return out.push(v).follow(&leaves[k..]);
-            }
-            if v == x {
-                return out.follow(&leaves[k..]);
-            }
-            out = out.push(x);
+        let at = leaves.iter().position(|&x| v <= x).unwrap_or(leaves.len());
+        let below = Leaves::none().follow(&leaves[..at])?;
+        if at < leaves.len() && v == leaves[at] {
+            return below.follow(&leaves[at..]);
         }
-        out.follow(&[v])
+        below.follow(&[v])?.follow(&leaves[at..])
     }
 
     // v put in, unless it is variable 0.

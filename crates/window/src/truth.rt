@@ -48,7 +48,7 @@ impl Table {
         Table(!self.0)
     }
 
-    // The two are the same in every bit.
+    // The two are the same in every bit. It stands beside `==` because `window/tables_compared_on_low_patterns` turns its body.
     pub fn same(self, other: Table) -> bool
         ensures { result ≡ same_table self.0 other.0 }
     {
