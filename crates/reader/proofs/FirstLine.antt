@@ -1,6 +1,6 @@
 -- The first line is `aag` and a space before a line of five numbers; what the code's answers on it say of the whole reading.
 -- Assumes nothing.
-use mathlib.Core.Path.{◌≡◌, refl, sym}
+use mathlib.Core.Path.{◌≡◌, refl, sym, ◌∙◌}
 use mathlib.Core.Bool.{Bool, true, false, cond, ◌&&◌}
 use mathlib.Core.List.{List, [], ◌∷◌}
 use mathlib.Core.Option.{none, some}
@@ -8,6 +8,7 @@ use Prim.Native.Nat.{ℕ}
 use lib.Dec.{eqb}
 use lib.ListN.{length, drop}
 use Rattle.std.specs.Prelude.{Some}
+use Rattle.std.specs.Bool.{then_some}
 use Rattle.std.specs.List.{starts_with}
 use Rattle.graph.specs.declared.refusal.Refusal.{Refusal}
 use Rattle.graph.specs.declared.refusal.Refusal.TheVariants.{BadHeader}
@@ -18,13 +19,14 @@ use Rattle.text.specs.Number.{front}
 use Rattle.text.specs.Line.{after, line_of}
 use Rattle.text.specs.States.{aag}
 use Rattle.text.specs.Reading.{header_line, header_refusals, refuses, read_body, reading}
+use Rattle.scanner.specs.Tokens.{byte_step}
 use Rattle.reader.specs.FirstLine.{header_numbers, header_step}
 use Rattle.reader.specs.Sections.{Limited}
 use Rattle.text.proofs.Reading.{no_first_line, first_line_refused, first_line_passes, header_within_iff}
 
 -- ---- the test of a text's front
 
-pub after_starts : (bs t : List ℕ) → cond (starts_with eqb t bs) (some (drop (length bs) t)) none ≡ after bs t
+after_starts : (bs t : List ℕ) → cond (starts_with eqb t bs) (some (drop (length bs) t)) none ≡ after bs t
 unfolding after
 after_starts [] t = refl
 after_starts (b ∷ bs) [] = refl
@@ -34,6 +36,15 @@ after_starts (b ∷ bs) (c ∷ t) = by_test (eqb b c) (after_starts bs t)
         → cond (e && starts_with eqb t bs) (some (drop (length bs) t)) none ≡ cond e (after bs t) none
     by_test true below = below
     by_test false below = refl
+
+module _ (t : List ℕ) where
+  place_or_not : (found : Bool) (n : ℕ) → byte_step t (then_some found n) ≡ cond found (some (drop n t)) none
+  unfolding byte_step
+  place_or_not true n = refl
+  place_or_not false n = refl
+
+  pub front_passed : (bs : List ℕ) → byte_step t (then_some (starts_with eqb t bs) (length bs)) ≡ after bs t
+  front_passed bs = place_or_not (starts_with eqb t bs) (length bs) ∙ after_starts bs t
 
 -- ---- what is found
 

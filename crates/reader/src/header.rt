@@ -22,11 +22,7 @@ pub(crate) struct HeaderAt {
 fn aag_at_front(text: &[u8]) -> Option<usize>
     ensures { byte_step text.now result ≡ after aag text.now }
 {
-    if text.starts_with(b"aag ") {
-        Some(4)
-    } else {
-        None
-    }
+    text.starts_with(b"aag ").then_some(4)
 }
 
 pub(crate) fn header_line(text: &[u8]) -> Option<HeaderAt>
