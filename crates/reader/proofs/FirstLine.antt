@@ -1,43 +1,50 @@
 -- The first line is `aag` and a space before a line of five numbers; what the code's answers on it say of the whole reading.
 -- Assumes nothing.
 use mathlib.Core.Path.{◌≡◌, refl, sym, ◌∙◌}
-use mathlib.Core.Bool.{Bool, true, false, cond}
+use mathlib.Core.Bool.{Bool, true, false, cond, ◌&&◌}
 use mathlib.Core.List.{List, [], ◌∷◌}
 use mathlib.Core.Option.{none, some}
 use Prim.Native.Nat.{ℕ}
 use lib.Dec.{eqb}
-use lib.ListN.{drop}
+use lib.ListN.{length, drop}
 use Rattle.std.specs.Prelude.{Some}
+use Rattle.std.specs.Bool.{then_some}
+use Rattle.std.specs.List.{starts_with}
 use Rattle.graph.specs.declared.refusal.Refusal.{Refusal}
 use Rattle.graph.specs.declared.refusal.Refusal.TheVariants.{BadHeader}
 use Rattle.graph.specs.Refuse.{first_refusal}
 use Rattle.reader.specs.declared.header.HeaderAt.{HeaderAt}
 use Rattle.text.specs.declared.header.Header.{Header}
 use Rattle.text.specs.Number.{front}
-use Rattle.text.specs.Line.{◌>>=◌, after, line_of}
+use Rattle.text.specs.Line.{after, line_of}
 use Rattle.text.specs.States.{aag}
 use Rattle.text.specs.Reading.{header_line, header_refusals, refuses, read_body, reading}
+use Rattle.scanner.specs.Tokens.{byte_step}
 use Rattle.reader.specs.FirstLine.{header_numbers, header_step}
 use Rattle.reader.specs.Sections.{Limited}
 use Rattle.text.proofs.Reading.{no_first_line, first_line_refused, first_line_passes, header_within_iff}
 
--- ---- bytes, one after the other: each is there, or the reading stops
+-- ---- the test of a text's front
 
-after_more : (b c : ℕ) (bs t : List ℕ) → after (b ∷ c ∷ bs) t ≡ (after (b ∷ []) t >>= after (c ∷ bs))
+after_starts : (bs t : List ℕ) → cond (starts_with eqb t bs) (some (drop (length bs) t)) none ≡ after bs t
 unfolding after
-after_more b c bs [] = refl
-after_more b c bs (x ∷ t) = by_test (eqb b x)
+after_starts [] t = refl
+after_starts (b ∷ bs) [] = refl
+after_starts (b ∷ bs) (c ∷ t) = by_test (eqb b c) (after_starts bs t)
   where
-    by_test : (e : Bool) → cond e (after (c ∷ bs) t) none ≡ (cond e (some t) none >>= after (c ∷ bs))
-    by_test true = refl
-    by_test false = refl
+    by_test : (e : Bool) → cond (starts_with eqb t bs) (some (drop (length bs) t)) none ≡ after bs t
+        → cond (e && starts_with eqb t bs) (some (drop (length bs) t)) none ≡ cond e (after bs t) none
+    by_test true below = below
+    by_test false below = refl
 
-module _ (b c : ℕ) (bs u : List ℕ) where
-  pub bytes_stop : none ≡ after (b ∷ []) u → none ≡ after (b ∷ c ∷ bs) u
-  bytes_stop e = sym (after_more b c bs u ∙ rw (sym e))
+module _ (t : List ℕ) where
+  place_or_not : (found : Bool) (n : ℕ) → byte_step t (then_some found n) ≡ cond found (some (drop n t)) none
+  unfolding byte_step
+  place_or_not true n = refl
+  place_or_not false n = refl
 
-  pub bytes_go_on : {t : List ℕ} → some t ≡ after (b ∷ []) u → after (c ∷ bs) t ≡ after (b ∷ c ∷ bs) u
-  bytes_go_on e = sym (after_more b c bs u ∙ rw (sym e))
+  pub front_passed : (bs : List ℕ) → byte_step t (then_some (starts_with eqb t bs) (length bs)) ≡ after bs t
+  front_passed bs = place_or_not (starts_with eqb t bs) (length bs) ∙ after_starts bs t
 
 -- ---- what is found
 

@@ -35,6 +35,7 @@ fn read_body(
         return Err(Refusal::BadLine);
     }
     let header = limited.header;
+    // Field by field: a conversion in `text` would be a public function with these three equations as its contract, for this one place.
     Ok(Counts {
         inputs: header.inputs as usize,
         gates: header.gates as usize,

@@ -8,10 +8,10 @@ ghost use Rattle.scanner.specs.Tokens.{byte_step};
 ghost use Rattle.reader.specs.FirstLine.{header_step};
 
 use graph::{MOST_GATES, MOST_INPUTS, MOST_OUTPUTS, Refusal};
-use scanner::{byte_at, line_of};
+use scanner::line_of;
 use text::{Header, MOST_BYTES};
 
-// The first line's counts, and the place after it.
+// The first line's counts, and the place after it. Named fields, as in `NumberAt` of `scanner`: they say which number is the place.
 #[derive(Clone, Copy, Debug, PartialEq, Eq)]
 pub(crate) struct HeaderAt {
     pub header: Header,
@@ -22,10 +22,7 @@ pub(crate) struct HeaderAt {
 fn aag_at_front(text: &[u8]) -> Option<usize>
     ensures { byte_step text.now result ≡ after aag text.now }
 {
-    let a = byte_at(text, 0, b'a')?;
-    let aa = byte_at(text, a, b'a')?;
-    let aag = byte_at(text, aa, b'g')?;
-    byte_at(text, aag, b' ')
+    text.starts_with(b"aag ").then_some(4)
 }
 
 pub(crate) fn header_line(text: &[u8]) -> Option<HeaderAt>

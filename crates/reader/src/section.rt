@@ -1,5 +1,8 @@
 // The lines after the first, a section at a time: the place where it ends, or why its first wrong line is refused.
-// `text, at` stay two: a section answers the next place alone, and the text is the same throughout.
+// `text, at` stay two: the text is the same throughout, a section answers the next place alone, and `line_of`, which it calls, takes the two.
+// `TextReader`, which holds them, is for one line.
+// Three loops and no function over closures: each section has a rule and a store of its own, and as closures both would need contracts,
+// which each caller would have to prove.
 ghost use Rattle.std.specs.Prelude.{◌≡◌, [], ◌+◌, ◌*◌, ◌<◌, ◌≤◌, length, take, drop};
 ghost use Rattle.text.specs.Reading.{gate_needed, inputs_needed, outputs_needed, gates_needed, gate_words};
 ghost use Rattle.reader.specs.Sections.{no_words, output_words, read_words, section_words};
@@ -59,6 +62,7 @@ fn is_gate_line(numbers: [u32; 3], gate: Var) -> bool
 }
 
 // Stores a gate's two literals, the larger first.
+// The two assignments stand here and in `put_gate` of `replacer`: a function for both would be no shorter than they are.
 #[tactic(auto, using(graph::proofs::Lent::laid_gate))]
 fn store_gate(words: &mut [u32], at: usize, one: Lit, other: Lit)
     requires { at + 1 < length words.old }

@@ -8,6 +8,7 @@ use crate::text_reader::TextReader;
 use graph::Refusal;
 
 // Reads a line of as many numbers as are lent, and gives the place after it. Where none stands there, the numbers are of no use.
+// A slice and no array: `docs/CONTRACTS.md` promises it for any count of numbers, and a length fixed in the type would ask more.
 pub fn line_of(text: &[u8], at: usize, numbers: &mut [u32]) -> Option<usize>
     ensures { line_step text.now numbers.new result
         ≡ line_of (length numbers.old) (drop at text.now) }
@@ -25,6 +26,7 @@ pub fn line_of(text: &[u8], at: usize, numbers: &mut [u32]) -> Option<usize>
 }
 
 // A misshapen line is a bad line, one that breaks its rule a bad literal.
+// `kept` is a bool: its three callers each have a rule of their own, and the clause names the two answers.
 #[tactic(auto, unfolding(crate::specs::Lines::line_refusal, graph::specs::Refuse::verdict_is))]
 pub fn line_verdict(line: Option<usize>, kept: bool) -> Result<usize, Refusal>
     ensures refusal { verdict_is result ≡ line_refusal (is_some line) kept }

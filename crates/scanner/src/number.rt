@@ -3,7 +3,7 @@ ghost use Rattle.std.specs.Prelude.{◌≡◌, drop};
 ghost use Rattle.text.specs.Number.{number};
 ghost use Rattle.scanner.specs.Tokens.{digit_at, number_step, run_value};
 
-// A number that stands at a place, and the place after it.
+// A number that stands at a place, and the place after it. Named fields: a pair of two numbers would not say which is the place.
 #[derive(Clone, Copy, Debug, PartialEq, Eq)]
 pub(crate) struct NumberAt {
     pub value: u32,
@@ -28,6 +28,7 @@ fn digits_at(text: &[u8], at: usize) -> Option<NumberAt>
 {
     let mut value: u32 = 0;
     let mut next = at;
+    // No chain: the value is held to its limit digit by digit, and the place after the last digit is answered with it.
     while let Some(digit) = digit_at(text, next) {
         value = value.checked_mul(10)?.checked_add(digit)?;
         next += 1;

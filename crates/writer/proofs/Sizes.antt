@@ -6,6 +6,8 @@ use Prim.Native.Nat.{ℕ, zero, suc, ◌+◌, ◌-◌, ◌*◌, ◌%◌, ◌≤�
 use native.Mathlib.Numerals.{add-one}
 use native.Mathlib.Omega.{arith}
 use lib.ListN.{length, get_or, length-append}
+use Rattle.std.specs.List.{sum_by}
+use Rattle.std.proofs.lemmas.List.Sums.{sum_by-cons}
 use Rattle.graph.specs.Lists.{gather}
 use Rattle.graph.specs.Graph.{Net, Graph, net_of, free, size, last, sinks, WellFormed}
 use Rattle.graph.proofs.Graph.{first_at, second_at}
@@ -35,6 +37,11 @@ pub line_size_none : length (line []) ≡ 0
 unfolding line
 line_size_none = refl
 
+-- a line's bytes, number by number
+pub line_sum : (ns : List ℕ) → length (line ns) ≡ sum_by (λ n. length (decimal n) + 1) ns
+line_sum [] = line_size_none
+line_sum (x ∷ xs) = omega (arith, line_size x xs, line_sum xs, sum_by-cons (λ n. length (decimal n) + 1) x xs)
+
 gather_size : (f : ℕ → List ℕ) (k : ℕ) → length (gather f (suc k)) ≡ length (gather f k) + length (f k)
 unfolding gather
 gather_size f k = length-append (gather f k) (f k)
@@ -52,14 +59,11 @@ module _ {f : ℕ → List ℕ} {k total : ℕ} (c : Counts f k total) where
   pub counts_all : (n : ℕ) → k ≡ n → total ≡ length (gather f n)
   counts_all n e = rw e at c.total_is
 
-  pub count_then : (x : ℕ) → length (f k) ≡ length (decimal x) + 1 → x ≤ most_number → {more : ℕ}
-      → more ≡ length (decimal x) → Counts f (k + 1) (total + (more + 1))
-  count_then x e s q =
-      let short = ten_digits x s in
-      record {
-        total_is = rw (add-one k) (omega (arith, gather_size f k, c.total_is));
-        few = omega (arith, c.few);
-      }
+  pub count_then : {more : ℕ} → more ≡ length (f k) → more ≤ 11 → Counts f (k + 1) (total + more)
+  count_then e s = record {
+    total_is = rw (add-one k) (omega (arith, gather_size f k, c.total_is, e));
+    few = omega (arith, c.few, s);
+  }
 
 -- ---- the text
 

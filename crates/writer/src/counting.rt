@@ -1,6 +1,7 @@
 // How many bytes a graph's text has. A line's bytes are those of its numbers and one after each, so lines are counted number by number.
 ghost use Rattle.std.specs.Prelude.{◌≡◌, [], true, ◌+◌, ◌*◌, ◌≤◌, length};
 ghost use Rattle.graph.specs.Graph.{net_of, last, most_gates};
+ghost use Rattle.text.specs.Number.{decimal};
 ghost use Rattle.text.specs.Line.{line, lines};
 ghost use Rattle.text.specs.States.{counts, input_numbers, text_of};
 
@@ -21,27 +22,32 @@ pub(crate) fn counts(graph: &CheckedGraph) -> [u32; 5]
     ]
 }
 
-// The bytes of these numbers and of one after each.
-#[tactic(auto, using(crate::proofs::Sizes::ten_digits, crate::proofs::Sizes::counts_none, crate::proofs::Sizes::counts_all, crate::proofs::Writing::line_numbers))]
+// The bytes of a number and of one after it.
+#[tactic(auto, using(crate::proofs::Sizes::ten_digits))]
+fn number_length(number: u32) -> usize
+    ensures is { result ≡ length (decimal number) + 1 }
+    ensures few { result ≤ 11 }
+{
+    decimal_length(number) + 1
+}
+
+// The same of a list of numbers.
 fn numbers_length(numbers: &[u32]) -> usize
     requires { length numbers.now ≤ 2 * most_gates }
     ensures { result ≡ length (line numbers.now) }
 {
-    let mut total = 0;
-    for number in numbers {
-        total += decimal_length(*number) + 1;
-    }
-    total
+    numbers.iter().map(|number| number_length(*number)).sum()
 }
 
-// The same of the plain literals of a net's variables: the input lines' and the gates' left sides.
-#[tactic(auto, using(crate::proofs::Sizes::ten_digits, crate::proofs::Sizes::counts_none, crate::proofs::Sizes::counts_all, crate::proofs::Writing::input_lines))]
+// And of the plain literals of a net's variables: the input lines' and the gates' left sides.
+#[tactic(auto, using(crate::proofs::Sizes::counts_none, crate::proofs::Sizes::counts_all, crate::proofs::Writing::input_lines))]
 fn variables_length(net: &Net) -> usize
     ensures { result ≡ length (lines (input_numbers (net_of (last net.now) []))) }
 {
     let mut total = 0;
+    // A loop: over a range, the proof of a `sum` finds no bound for it.
     for k in 0..net.last() {
-        total += decimal_length(Var(k as u32 + 1).plain().0) + 1;
+        total += number_length(Var(k as u32 + 1).plain().0);
     }
     total
 }

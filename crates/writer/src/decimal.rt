@@ -3,22 +3,14 @@ ghost use Rattle.std.specs.Prelude.{◌≡◌, ◌+◌, ◌≤◌, length};
 ghost use Rattle.text.specs.Number.{decimal};
 ghost use Rattle.graph.specs.Lent.{laid};
 
-// How many digits a number has. No division: they cost more than the comparisons.
+// How many digits a number has.
 pub(crate) fn decimal_length(number: u32) -> usize
     ensures { result ≡ length (decimal number) }
 {
-    match number {
-        0..=9 => 1,
-        10..=99 => 2,
-        100..=999 => 3,
-        1_000..=9_999 => 4,
-        10_000..=99_999 => 5,
-        100_000..=999_999 => 6,
-        1_000_000..=9_999_999 => 7,
-        10_000_000..=99_999_999 => 8,
-        100_000_000..=999_999_999 => 9,
-        _ => 10,
+    if number == 0 {
+        return 1;
     }
+    number.ilog10() as usize + 1
 }
 
 // Writes a number from a place on, the last digit first, and answers the place after it.

@@ -1,12 +1,15 @@
--- `writer::counting::numbers_length` meets its contract: after k turns the first k numbers are counted, each with a byte after it.
+-- `writer::counting::numbers_length` meets its contract: the sum that the chain gives is that of the line's numbers.
 -- Assumes nothing.
-use native.Mathlib.Omega.{arith}
-use lib.ListN.{get_or}
-use Rattle.writer.proofs.Sizes.{number_size, count_then}
+use mathlib.Core.Path.{◌≡◌, sym, ◌∙◌}
+use Prim.Native.Nat.{◌+◌}
+use lib.ListN.{length}
+use Rattle.std.proofs.Common.{rules}
+use Rattle.std.specs.List.{sum_by}
+use Rattle.text.specs.Number.{decimal}
+use Rattle.writer.proofs.Sizes.{line_sum}
 use Rattle.writer.proofs.counting.numbers_length.Goals as goal
 
-pub loop-number-preserved : goal.loop-number-preserved
-loop-number-preserved c =
-    let ns = c.args.numbers.now in
-    let k = c.loop-number.number-index in
-    count_then c.loop-number.invariant (get_or ns k 0) (number_size ns k) (omega (arith, c.type_inv.numbers k)) c.decimal_length.ensures
+pub returns : goal.returns
+returns c =
+    let summed : c.sum.result ≡ sum_by (λ n. length (decimal n) + 1) c.args.numbers.now = search rules in
+    summed ∙ sym (line_sum c.args.numbers.now)

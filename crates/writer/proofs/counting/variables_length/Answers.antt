@@ -9,5 +9,5 @@ use Rattle.writer.proofs.counting.variables_length.Goals as goal
 pub loop-k-preserved : goal.loop-k-preserved
 loop-k-preserved c =
     let literal = 2 * (c.loop-k.k + 1) in
-    count_then c.loop-k.invariant literal (omega (arith, line_size literal [], line_size_none)) (omega arith)
-    (rw c.plain.ensures at c.decimal_length.ensures)
+    let counted = rw c.plain.ensures at c.number_length-total.ensures in
+    count_then c.loop-k.invariant (omega (arith, line_size literal [], line_size_none, counted.is)) counted.few
