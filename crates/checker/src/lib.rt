@@ -39,7 +39,8 @@ pub fn all_up_to(words: &[u32], most: usize) -> bool
     words.iter().all(|word| *word as usize <= most)
 }
 
-// A lent graph keeps the rules and the limits.
+// A lent graph keeps the rules and the limits. A bool, and no checked graph besides: each verdict that asks would need one clause more,
+// to say that the graph it answers is the one it was given.
 #[tactic(auto, using(crate::proofs::Checks::whole_graph))]
 pub fn well_formed(graph: &LentGraph) -> bool
     ensures { result ≡ well_formed graph.now }

@@ -11,7 +11,7 @@ use graph::{MOST_OUTPUTS, Refusal};
 use scanner::rest_is_skipped;
 use text::Counts;
 
-// Room for the words of any graph.
+// Room for the words of any graph: arrays, as nothing takes memory here. The header says how many words there are.
 #[derive(Drop)]
 pub(crate) struct Aside {
     pub gates: [u32; MOST_GATE_WORDS],

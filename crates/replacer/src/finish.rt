@@ -29,8 +29,8 @@ pub fn mark_kept(rewiring: &Rewiring, marks: &mut [bool], list: &mut [u32])
     }
 }
 
-// The two words of a gate by the new numbers go to place `at`; the place after them. Its two assignments
-// are like those of reader's `store_gate`; a function for both would be no shorter than they are.
+// The two words of a gate by the new numbers go to place `at`; the place after them. Its two assignments are like those of reader's
+// `store_gate`; a function for both would be no shorter than they are.
 fn put_gate(words: &mut [u32], at: usize, gate: Fanins, renumbering: &Renumbering) -> usize
     requires at_in_bounds { suc at < length words.old }
     requires first_in_bounds { (var_of gate.first.0 < MOST_VARIABLES) × (var_of gate.second.0 < MOST_VARIABLES) }

@@ -11,7 +11,8 @@ use graph::{LentGraph, Var};
 pub const LEAF_LIMIT: usize = 6;
 
 // A leaf set: how many leaves there are, and six places, ascending without repeats; unused places are 0.
-// A count beside an array, no vector: other languages pass just these, whatever they hold, and no memory is taken.
+// A count beside an array, no vector: other languages pass just these (`nenquilco_table`, `nenquilco_apply`), whatever they hold, and no
+// memory is taken.
 #[derive(Clone, Copy, Debug, PartialEq, Eq)]
 pub struct Leaves {
     pub count: usize,
