@@ -1,8 +1,6 @@
 // The lines after the first, a section at a time: the place where it ends, or why its first wrong line is refused.
-// `text, at` stay two: the text is the same throughout, a section answers the next place alone, and `line_of`, which it calls, takes the two.
-// `TextReader`, which holds them, is for one line.
-// Three loops and no function over closures: each section has a rule and a store of its own, and as closures both would need contracts,
-// which each caller would have to prove.
+// `text, at` stay two: a section answers the next place alone, `line_of` takes the two, and a `TextReader`, which holds them, is for one line.
+// Three loops: each section has a rule and a store of its own, and as closures both would need contracts of their own.
 ghost use Rattle.std.specs.Prelude.{◌≡◌, [], ◌+◌, ◌*◌, ◌<◌, ◌≤◌, length, take, drop};
 ghost use Rattle.text.specs.Reading.{gate_needed, inputs_needed, outputs_needed, gates_needed, gate_words};
 ghost use Rattle.reader.specs.Sections.{no_words, output_words, read_words, section_words};

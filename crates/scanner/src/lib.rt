@@ -1,6 +1,5 @@
 // A lent text, read on from a place: bytes that must stand there, lines of numbers with the verdict on one, and the rest. Nothing is asked of the caller.
-// `text, at` stay two: the text is the same throughout, and what is answered is the next place alone. The theorem `thin_meets` (README) needs
-// such functions: it says that a method of `TextReader` that calls one keeps its contract where the function does.
+// `text, at` stay two: the next place alone is answered, and `thin_meets` (README) is of methods of `TextReader` that call such a function.
 #![tactic(auto)]
 
 mod bytes;

@@ -1,7 +1,6 @@
 // The text reader: it reads on from its place in the lent text and copies nothing.
 // A line is read by one reader: what it answers holds the next place, and it is moved there.
-// The theorems `thin_meets` and `asks` (README) are about its methods: by the first, one that calls a function of `text, at` alone, as `number`
-// does, keeps its contract where that function does; by the second, one can be called in the middle of a walk. So methods and functions both stay.
+// The theorems `thin_meets` and `asks` (README) are of methods over a function of `text, at`, as `number` is: so methods and functions both stay.
 ghost use Rattle.std.specs.Prelude.{◌≡◌, [], ◌∷◌, drop};
 ghost use Rattle.text.specs.Line.{after};
 ghost use Rattle.text.specs.Number.{number};

@@ -1,12 +1,14 @@
 -- How many bytes the lines have: those of their numbers and one after each, so that a text's bytes are counted number by number.
 -- Assumes nothing.
-use mathlib.Core.Path.{◌≡◌, refl, ap, ◌∙◌}
+use mathlib.Core.Path.{◌≡◌, refl, sym, ap, ◌∙◌}
 use mathlib.Core.List.{List, [], ◌∷◌}
 use Prim.Native.Nat.{ℕ, zero, suc, ◌+◌, ◌-◌, ◌*◌, ◌%◌, ◌≤◌, zero-le}
 use native.Mathlib.Numerals.{add-one}
 use native.Mathlib.Omega.{arith}
 use lib.ListN.{length, get_or, length-append}
-use Rattle.std.specs.List.{sum_by}
+use Rattle.std.specs.List.{sum_by, range_with_len}
+use Rattle.std.proofs.lemmas.List.FromFn.{sum_by-map-range_with_len_more}
+use Rattle.std.proofs.lemmas.List.{map-id}
 use Rattle.std.proofs.lemmas.List.Sums.{sum_by-cons}
 use Rattle.graph.specs.Lists.{gather}
 use Rattle.graph.specs.Graph.{Net, Graph, net_of, free, size, last, sinks, WellFormed}
@@ -46,24 +48,32 @@ gather_size : (f : ℕ → List ℕ) (k : ℕ) → length (gather f (suc k)) ≡
 unfolding gather
 gather_size f k = length-append (gather f k) (f k)
 
--- the first k pieces have so many bytes, at most ten digits and one byte each
-pub record Counts (f : ℕ → List ℕ) (k total : ℕ) : Type 0 where
-  pub total_is : total ≡ length (gather f k)
-  pub few : total ≤ 11 * k
+-- the bytes of input line k
+abbrev pub line_bytes : ℕ → ℕ
+line_bytes k = length (decimal (2 * (k + 1))) + 1
 
-pub counts_none : (f : ℕ → List ℕ) → Counts f 0 0
+abbrev pub first_bytes : ℕ → ℕ
+first_bytes n = sum_by line_bytes (range_with_len 0 n)
+
+one_more_line : (n : ℕ) → first_bytes (suc n) ≡ first_bytes n + line_bytes n
+one_more_line n =
+    ap first_bytes (sym (add-one n))
+    ∙ ap (sum_by line_bytes) (sym (map-id (range_with_len 0 (n + 1))))
+    ∙ sum_by-map-range_with_len_more line_bytes (λ k. k) 0 n n (omega arith)
+    ∙ ap (λ (ks : List ℕ). sum_by line_bytes ks + line_bytes n) (map-id (range_with_len 0 n))
+
+pub first_lines : (net : Net) → length (lines (input_numbers net)) ≡ first_bytes (free net)
 unfolding gather
-counts_none f = record { total_is = refl; few = zero-le }
+first_lines net = ap length (input_lines net) ∙ all (free net)
+  where
+    all : (n : ℕ) → length (gather input_line n) ≡ first_bytes n
+    all zero = refl
+    all (suc n) = omega (arith, gather_size input_line n, line_size (2 * (n + 1)) [], line_size_none, one_more_line n, all n)
 
-module _ {f : ℕ → List ℕ} {k total : ℕ} (c : Counts f k total) where
-  pub counts_all : (n : ℕ) → k ≡ n → total ≡ length (gather f n)
-  counts_all n e = rw e at c.total_is
-
-  pub count_then : {more : ℕ} → more ≡ length (f k) → more ≤ 11 → Counts f (k + 1) (total + more)
-  count_then e s = record {
-    total_is = rw (add-one k) (omega (arith, gather_size f k, c.total_is, e));
-    few = omega (arith, c.few, s);
-  }
+-- at most ten digits and one byte a line
+pub first_few : (n : ℕ) → 2 * n ≤ most_number → first_bytes n ≤ 11 * n
+first_few zero l = zero-le
+first_few (suc n) l = omega (arith, one_more_line n, ten_digits (2 * (n + 1)) (omega arith), first_few n (omega arith))
 
 -- ---- the text
 

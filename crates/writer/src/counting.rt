@@ -40,16 +40,12 @@ fn numbers_length(numbers: &[u32]) -> usize
 }
 
 // And of the plain literals of a net's variables: the input lines' and the gates' left sides.
-#[tactic(auto, using(crate::proofs::Sizes::counts_none, crate::proofs::Sizes::counts_all, crate::proofs::Writing::input_lines))]
 fn variables_length(net: &Net) -> usize
     ensures { result ≡ length (lines (input_numbers (net_of (last net.now) []))) }
 {
-    let mut total = 0;
-    // A loop: over a range, the proof of a `sum` finds no bound for it.
-    for k in 0..net.last() {
-        total += number_length(Var(k as u32 + 1).plain().0);
-    }
-    total
+    (0..net.last())
+        .map(|k| number_length(Var(k as u32 + 1).plain().0))
+        .sum()
 }
 
 // The bytes of a graph's whole text: `aag` and a space, the counts, and the numbers of the other lines.

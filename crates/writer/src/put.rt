@@ -33,8 +33,7 @@ fn put_line(bytes: &mut [u8], at: usize, numbers: &[u32]) -> usize
     next
 }
 
-// Three loops and no function over a closure that gives a line's numbers: its contract would have to say what the closure asks and answers
-// at each place, and each caller to prove it, which is longer than a loop.
+// Three loops: one over a closure would have to say what the closure asks and answers at each place, and each caller to prove it.
 #[tactic(auto, using(graph::proofs::Lent::pieces_all, crate::proofs::Writing::input_lines))]
 fn put_inputs(bytes: &mut [u8], at: usize, net: &Net) -> usize
     requires { at + length (lines (input_numbers net.now)) ≤ length bytes.old }
