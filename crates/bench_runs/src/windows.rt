@@ -76,6 +76,7 @@ fn gate_limit(rt: &impl Print) -> io::Result<()> {
 }
 
 // Reads until the bytes are full or the input ends, and says how many there are.
+// A loop by hand, since there is no heap: `read_to_end` fills a vector, and `read_exact` fails where the input is shorter.
 fn read_full<R: Read>(reader: &mut R, bytes: &mut [u8]) -> io::Result<usize>
     ensures { IfOk result (λ n. n ≤ length bytes.new) }
 {

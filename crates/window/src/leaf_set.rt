@@ -127,14 +127,10 @@ impl Leaves {
         ensures { result ≡ leaves_of (remove v.0 (leaf_list self)) }
     {
         let leaves = self.as_slice();
-        let mut out = Leaves::none();
-        for (k, &x) in leaves.iter().enumerate() {
-            if v == x {
-                return out.follow(&leaves[k + 1..]).unwrap();
-            }
-            out = out.push(x);
-        }
-        out
+        let at = leaves.iter().position(|&x| v == x).unwrap_or(leaves.len());
+        let before = Leaves::none().follow(&leaves[..at]).unwrap();
+        let after = (at + 1).min(leaves.len());
+        before.follow(&leaves[after..]).unwrap()
     }
 
     // The set with the fanin variables of v's gate, without 0.
