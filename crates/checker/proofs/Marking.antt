@@ -7,7 +7,6 @@ use Prim.Native.Nat.{ℕ, zero, suc, ◌+◌, ◌-◌, ◌≤◌, ◌<◌}
 use native.Mathlib.Nat.{le_refl}
 use native.Mathlib.Numerals.{add-one}
 use native.Mathlib.Omega.{arith}
-use mir.Val.{bool_byte}
 use borrow.Author.Tests.{le-leb, lt-leb, lt-ltb, le-ltb}
 use mir.Val.{bool_byte}
 use lib.ListN.{length, get_or, set, drop, replicate, drop_of_length-le, length-replicate}
@@ -111,13 +110,6 @@ module _ (net : Net) (ms : List Bool) where
       count_sum n
       ∙ ap (λ (ks : List ℕ). sum_by mark ks) (map-id (range_with_len 0 n))
       ∙ sym (length-filter _ (range_with_len 0 n))
-
-  -- the mark of one gate more, as a cast gives it
-  pub count_more : (k : ℕ) → count_marks net ms k + bool_byte (get_or ms (free net + k + 1) false) ≡ count_marks net ms (k + 1)
-  unfolding count_marks
-  count_more k =
-      let e : free net + k + 1 ≡ suc (free net + k) = omega arith in
-      rw (add-one k, e) (ap (λ (n : ℕ). count_marks net ms k + n) (cast_is (get_or ms (suc (free net + k)) false)))
 
   -- lists that hold the same marks of gates have the same number of them
   pub count_same : (ms' : List Bool) → ((v : ℕ) → IsGate net v → get_or ms v false ≡ get_or ms' v false)
