@@ -30,6 +30,7 @@ fn over_two<'a>(gates: &'a [u32], outputs: &'a [u32]) -> LentGraph<'a> {
     LentGraph::new(2, gates, outputs)
 }
 
+// So many leaves, the first two of which are a and b. The other runs have one like it: programs share only what they print.
 fn over(count: usize, a: u32, b: u32) -> Leaves {
     Leaves {
         count,

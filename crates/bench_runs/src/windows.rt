@@ -119,7 +119,7 @@ fn tables(
     say(rt, b"\n")
 }
 
-// So many leaves, the first two of which are a and b.
+// So many leaves, the first two of which are a and b; `apply_runs` has one like it, since programs share only what they print.
 fn two_places(count: usize, a: u32, b: u32) -> Leaves {
     Leaves {
         count,
