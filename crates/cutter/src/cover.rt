@@ -59,7 +59,7 @@ pub fn cover(window: &LeafWindow, covers: &mut [bool])
 }
 
 // The leaves cut the root: it is covered. Its array is its own, as that of `root_table` is: for both over any algebra it would be one of a
-// type parameter's values, and nothing says that such an array fits memory.
+// type parameter's values, and nothing says that such an array fits memory (tried).
 #[tactic(auto, using(crate::proofs::Sweeping::covered_at))]
 pub fn is_cut(window: &LeafWindow) -> bool
     ensures { result ≡ covered window.now.net.now window.now.leaves window.now.root.0 }

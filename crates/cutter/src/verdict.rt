@@ -1,4 +1,4 @@
-// What calls on a root and on a window ask first.
+// What calls on a root and on a window ask first. Graph, root and leaves come as they are, since no fact joins them before the verdict.
 ghost use Rattle.std.specs.Prelude.{◌≡◌};
 ghost use Rattle.graph.specs.Refuse.{first_refusal, verdict_is};
 ghost use Rattle.window.specs.Calls.{root_refusals, window_refusals};

@@ -7,7 +7,7 @@ ghost use Rattle.listing.specs.Listing.{proposal_of};
 use graph::{Lit, Refusal};
 use replacement::Proposal;
 
-// A record of the list, in plain words, its kind too: the list lies in lent memory (`list_effect`), where other languages read it.
+// A record of the list, in plain words, its kind too: by `list_effect` the list lies in lent memory.
 #[derive(Clone, Copy, Debug, PartialEq, Eq)]
 pub struct Candidate {
     pub kind: u32,

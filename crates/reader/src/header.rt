@@ -11,7 +11,8 @@ use graph::{MOST_GATES, MOST_INPUTS, MOST_OUTPUTS, Refusal};
 use scanner::line_of;
 use text::{Header, MOST_BYTES};
 
-// The first line's counts, and the place after it. Named fields, as in `NumberAt` of `scanner`: they say which number is the place.
+// The first line's counts, and the place after it. A struct of its own, as `NumberAt` of `scanner` is: its field's name says that
+// this is the place.
 #[derive(Clone, Copy, Debug, PartialEq, Eq)]
 pub(crate) struct HeaderAt {
     pub header: Header,

@@ -17,7 +17,8 @@ use graph::{MOST_OUTPUTS, Refusal};
 use section::MOST_GATE_WORDS;
 use text::Counts;
 
-// Reads a text: the counts of the graph that it states, whose words are then in the lent lists; or why it is refused.
+// Reads a text: the counts of the graph that it states, whose words are then in the lent lists; or why it is refused. The lists stay two, as
+// those of `checker::no_room` and of replacer's `apply`: of slices lent in a struct of both, a caller would know nothing afterwards.
 #[tactic(auto, unfolding(graph::specs::Lent::short))]
 pub fn read(text: &[u8], gates: &mut [u32], outputs: &mut [u32]) -> Result<Counts, Refusal>
     ensures { result leaving buffers_of gates.new outputs.new

@@ -1,5 +1,6 @@
 // Replacing a root: the call that judges a proposal and makes the finished graph. All is judged before the first word is stored.
-// `words, results` stay two: of slices lent in a struct of both, a caller would know nothing afterwards.
+// `words, results` stay two: of slices lent in a struct of both, a caller would know nothing afterwards (tried). Graph, root, leaves and
+// proposal come as they are, since no fact joins them before the verdict.
 #![tactic(auto)]
 
 mod finish;

@@ -10,7 +10,7 @@ ghost use Rattle.replacer.specs.Finishing.{new_numbers, SmallNumbers, by_numbers
 use checker::marks::has_mark;
 use graph::{Lit, MOST_VARIABLES, Net, Var};
 
-// The new numbers, all small enough for literals, and how many gates stay.
+// The new numbers, all small enough for literals, and how many gates stay. An array, as nothing takes memory.
 #[derive(Drop)]
 pub struct Renumbering {
     pub numbers: [u32; MOST_VARIABLES],

@@ -1,7 +1,8 @@
 // What a proposal holds back: the gates without a mark that its literals reach. They are listed as they are found, so that nothing else is
 // visited, and their marks can be taken off again.
 // `first, second` stay two literals: any two of the net may come, and a value that says so of both would have to hold the net besides.
-// Two lent lists, not one value: a call could leave a shorter list in a struct of both, so each contract would have to say that it does not.
+// Two lent lists, not one value: a call could leave a shorter list in a struct of both, so each contract would have to say that it does not
+// (tried). So `WalkRoom`, that both are long enough for a net, stays a clause, and how many are listed stands beside the list.
 ghost use Rattle.std.specs.Prelude.{◌≡◌, true, false, [], ◌∷◌, ℕ, suc, ◌<◌, ◌≤◌, length, get_or, take};
 ghost use Rattle.graph.specs.Literal.{var_of};
 ghost use Rattle.graph.specs.Graph.{free, last, first, second, IsGate, WellFormedNet};

@@ -44,7 +44,7 @@ impl Leaves {
     }
 
     // The leaves ascend from 1 on, and each is below the root.
-    // A loop by hand: `is_sorted_by` would need a second walk, since the leaves are also above 0 and below the root.
+    // One loop: as a chain it would be three tests, that the leaves ascend, that the first is above 0, and that the last is below the root.
     fn ascends(self, root: Var) -> bool
         ensures { result ≡ ascends_from 0 (leaf_list self) && all (λ v. ltb v root.0) (leaf_list self) }
     {
@@ -133,7 +133,8 @@ impl Leaves {
         before.follow(&leaves[after..]).unwrap()
     }
 
-    // The set with the fanin variables of v's gate, without 0.
+    // The set with the fanin variables of v's gate, without 0. Over a lent graph, as `expand` is, since
+    // both ask less than a `Net` says; so `expanded_count` takes one too.
     pub fn with_fanins(self, graph: &LentGraph, v: Var) -> Option<Leaves>
         requires { (free graph.now.net ≤ most_inputs) × IsGate graph.now.net v.0 }
         ensures { result ≡ grown_of (with_fanins graph.now.net v.0 (leaf_list self)) }
