@@ -1,51 +1,42 @@
 -- What the code's tests of a graph come to, one at a time.
 -- Assumes nothing.
-use mathlib.Core.Path.{◌≡◌, refl, ap, ◌∙◌}
+use mathlib.Core.Path.{◌≡◌}
 use mathlib.Core.Bool.{Bool, true, false}
 use mathlib.Core.List.{List}
-use Prim.Native.Nat.{ℕ, zero, suc, ◌+◌, ◌*◌, ◌/◌, ◌%◌, ◌<◌, ◌≤◌}
+use Prim.Native.Nat.{ℕ, suc, ◌+◌, ◌*◌, ◌/◌, ◌%◌, ◌<◌, ◌≤◌}
+use native.Mathlib.Numerals.{add-one}
 use native.Mathlib.Omega.{arith}
 use borrow.Author.Tests.{eq-eqb, ne_eqb, le-leb, lt-leb}
 use lib.Dec.{leb, ltb}
 use lib.ListN.{length, get_or}
 use Rattle.graph.specs.Lists.{every, all_below, all}
-use Rattle.graph.specs.Graph.{Net, Graph, free, first, second, size, last, sinks, gate_ok, sink_ok, rules, well_formed, most_inputs, most_outputs, most_gates}
-use Rattle.std.specs.List.{list_all, range_with_len}
-use mathlib.Core.Logic.{⊎_elim}
-use Rattle.graph.proofs.Lists.{and_true, and_left, and_right, and_both, fails_with, every_at, all_below_at, all_below_of, same_tests, at_most_or_above}
+use Rattle.graph.specs.Graph.{Net, Graph, free, size, last, sinks, gate_ok, sink_ok, rules, well_formed, most_inputs, most_outputs, most_gates}
+use Rattle.graph.proofs.Lists.{and_true, fails_with, every_at, all_below_at}
+use Rattle.graph.proofs.Graph.{first_at, second_at}
 
 -- ---- a test at each number in turn
 
 module _ (f : ℕ → Bool) where
-  range_true : (k n : ℕ) → ((j : ℕ) → k ≤ j → j < k + n → f j ≡ true) → list_all f (range_with_len k n) ≡ true
-  range_true k zero h = refl
-  range_true k (suc n) h =
-      and_both (f k) _ (h k (omega arith) (omega arith)) (range_true (k + 1) n (λ j a b. h j (omega arith) (omega arith)))
+  pub all_more : (k : ℕ) → all_below f k ≡ true → f k ≡ true → all_below f (k + 1) ≡ true
+  unfolding all_below
+  all_more k e h = rw (add-one k, h, e)
 
-  range_at : (k n : ℕ) → list_all f (range_with_len k n) ≡ true → (j : ℕ) → k ≤ j → j < k + n → f j ≡ true
-  range_at k zero e j a b = absurd (omega arith)
-  range_at k (suc n) e j a b = ⊎_elim
-      (λ l. range_at (k + 1) n (and_right (f k) _ e) j (omega arith) (omega arith))
-      (λ l. let q : j ≡ k = omega arith in ap f q ∙ and_left (f k) _ e)
-      (at_most_or_above (k + 1) j)
-
-  -- a walk from 0 on tests all numbers below n
-  pub below_by_std : (n : ℕ) → all_below f n ≡ list_all f (range_with_len 0 n)
-  below_by_std n = same_tests _ _
-      (λ e. range_true 0 n (λ j a b. all_below_at f n e j (omega arith)))
-      (λ e. all_below_of f n (λ j b. range_at 0 n e j (omega arith) (omega arith)))
+  -- one failure decides
+  pub all_stop : (k n : ℕ) → k < n → f k ≡ false → all_below f n ≡ false
+  all_stop k n h e = fails_with _ _ (λ t. all_below_at f n t k h) e
 
 -- ---- a gate
 
 module _ (net : Net) (k : ℕ) where
-  pub gate_bad : first net (free net + k + 1) < second net (free net + k + 1) → gate_ok net (suc (free net + k)) ≡ false
+  pub gate_bad : get_or net.gates (2 * k) 0 < get_or net.gates (2 * k + 1) 0 → gate_ok net (suc (free net + k)) ≡ false
   unfolding gate_ok
-  gate_bad h = let e : suc (free net + k) ≡ free net + k + 1 = omega arith in rw (e, lt-leb _ _ h)
+  gate_bad h = rw (first_at net k, second_at net k, lt-leb _ _ h)
 
-  pub gate_good : second net (free net + k + 1) ≤ first net (free net + k + 1)
-      → gate_ok net (suc (free net + k)) ≡ ltb (first net (free net + k + 1)) (2 * (free net + k + 1))
+  pub gate_good : get_or net.gates (2 * k + 1) 0 ≤ get_or net.gates (2 * k) 0
+      → gate_ok net (suc (free net + k)) ≡ ltb (get_or net.gates (2 * k) 0) (2 * (free net + k + 1))
   unfolding gate_ok
-  gate_good h = let e : suc (free net + k) ≡ free net + k + 1 = omega arith in rw (e, le-leb _ _ h)
+  gate_good h =
+      let e : 2 * suc (free net + k) ≡ 2 * (free net + k + 1) = omega arith in rw (first_at net k, second_at net k, le-leb _ _ h, e)
 
 -- ---- the whole graph
 

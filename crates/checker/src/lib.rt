@@ -9,7 +9,7 @@ ghost use Rattle.graph.specs.Lists.{all_below, all};
 ghost use Rattle.graph.specs.Lent.{short};
 ghost use Rattle.graph.specs.Graph.{free, size, most_inputs, most_gates, gate_ok, well_formed};
 
-use graph::{Fanins, LentGraph, MOST_GATES, MOST_INPUTS, MOST_OUTPUTS, Var};
+use graph::{LentGraph, MOST_GATES, MOST_INPUTS, MOST_OUTPUTS};
 
 // Gate k, from 0, has its larger literal first, and both are below its own.
 #[tactic(auto, using(crate::proofs::Checks::gate_bad, crate::proofs::Checks::gate_good))]
@@ -17,19 +17,27 @@ fn gate_ok(graph: &LentGraph, k: usize) -> bool
     requires { (free graph.now.net ≤ most_inputs) × (k < most_gates) × (2 * k + 1 < length graph.now.net.gates) }
     ensures { result ≡ gate_ok graph.now.net (suc (free graph.now.net + k)) }
 {
-    let v = graph.inputs() + k + 1;
-    let Fanins { first, second } = graph.fanins_of(Var(v as u32));
+    let gates = graph.gates();
+    let first = gates[2 * k];
+    let second = gates[2 * k + 1];
     if first < second {
         return false;
     }
-    (first.0 as usize) < 2 * v
+    (first as usize) < 2 * (graph.inputs() + k + 1)
 }
 
+// A loop over the words themselves, as `count_marks` and `mark_after` are: by chains, `fanins_of` and `Net::gate` the leaf rule takes more
+// than 0.8 of the second program's time.
 fn gates_ok(graph: &LentGraph) -> bool
     requires { (free graph.now.net ≤ most_inputs) × (length graph.now.net.gates ≤ 2 * most_gates) }
     ensures { result ≡ all_below (λ k. gate_ok graph.now.net (suc (free graph.now.net + k))) (size graph.now.net) }
 {
-    (0..graph.size()).all(|k| gate_ok(graph, k))
+    for k in 0..graph.size() {
+        if !gate_ok(graph, k) {
+            return false;
+        }
+    }
+    true
 }
 
 // No word is above `most`.

@@ -1,7 +1,6 @@
 // Marks of variables in lent memory, put and read through these two functions alone.
 // A lent slice, and no type of its own: a slice keeps its length through a call, but once it was lent in a struct its owner knows nothing of it
-// (tried).
-// docs/CONTRACTS.md names these functions over as many marks as are lent: an array of fixed length would ask more.
+// (tried). docs/CONTRACTS.md names these functions over as many marks as are lent: an array of fixed length would ask more.
 ghost use Rattle.std.specs.Prelude.{◌≡◌, false, ◌<◌, length, get_or, set};
 ghost use Rattle.checker.specs.Marks.{marks_in};
 

@@ -36,7 +36,7 @@ pub fn mark_after(net: &Net, from: usize, stop: usize, marks: &mut [bool])
     ensures { marks_in marks.new ≡ mark_after net.now stop (from - stop) (marks_in marks.old) }
 {
     for k in (stop..from).rev() {
-        mark_fanins(net, net.gate(k), marks);
+        mark_fanins(net, Var((net.inputs() + k + 1) as u32), marks);
     }
 }
 
@@ -73,9 +73,12 @@ fn count_marks(net: &Net, marks: &[bool]) -> usize
     requires { last net.now < length (marks_in marks.now) }
     ensures { result ≡ count_marks net.now (marks_in marks.now) (size net.now) }
 {
-    (0..net.size())
-        .filter(|&k| has_mark(marks, net.gate(k)))
-        .count()
+    let mut found = 0;
+    for k in 0..net.size() {
+        let v = Var((net.inputs() + k + 1) as u32);
+        found += has_mark(marks, v) as usize;
+    }
+    found
 }
 
 // R, the number of gates in use.

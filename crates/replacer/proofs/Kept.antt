@@ -62,7 +62,7 @@ module _ (net : Net) (ms : List Bool) where
       (λ (l : free net < n + 1).
       let here : free net + (n - free net) ≡ n = omega arith in
       let next : free net + (n - free net + 1) ≡ n + 1 = omega arith in
-      let place : suc (free net + (n - free net)) ≡ n + 1 = omega arith in
+      let place : free net + (n - free net) + 1 ≡ n + 1 = omega arith in
       let number = rw here at (number_counts (n - free net)) in
       let counted = rw next at (number_counts (n - free net + 1)) in
       let marked = rw place at (count_more net ms (n - free net)) in

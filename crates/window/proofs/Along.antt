@@ -1,20 +1,12 @@
--- Walks along a list of leaves: what stands from place k on as numbers, and leaves set down after others.
+-- Walks along a list of leaves: what stands from place k on as numbers, and the leaves before it set down anew.
 -- Assumes nothing.
 use mathlib.Core.Path.{◌≡◌, refl, sym, ap, ap₂, ◌∙◌}
 use mathlib.Core.Bool.{◌&&◌, ◌||◌}
 use mathlib.Core.List.{List, [], ◌∷◌, ◌++◌, map, append_assoc}
 use Prim.Native.Nat.{ℕ, zero, suc, ◌+◌, ◌≤◌, ◌<◌, min}
 use native.Mathlib.Omega.{arith}
-use native.Mathlib.Numerals.{one-add}
-use mathlib.Core.Logic.{⊎_elim}
-use Rattle.graph.proofs.Lists.{at_most_or_above, equal_or_not}
-use Rattle.std.specs.List.{position_or_len}
-use Rattle.std.specs.Option.{unwrap_or}
-use Rattle.std.specs.Prelude.{Option, Some, None}
-use Rattle.std.proofs.lemmas.List.Sums.{prefix_len-le-length, passes_at_first}
-use mathlib.Core.Bool.{Bool, cond, not}
-use borrow.Author.Tests.{leb-true, le-leb, lt-leb, eqb-true, lt-ltb, le-ltb, eq-eqb, ne_eqb}
-use lib.Dec.{eqb, leb, ltb}
+use borrow.Author.Tests.{eqb-true, lt-ltb, le-ltb, eq-eqb, ne_eqb}
+use lib.Dec.{eqb}
 use lib.ListN.{length, get_or, take, drop, length-map, length-append, length-take}
 use Rattle.std.proofs.lemmas.List.{drop_more, drop_all, take-map, take_min}
 use Rattle.std.specs.List.{list_any, list_all}
@@ -24,8 +16,8 @@ use Rattle.graph.proofs.Lists.{same_tests}
 use Rattle.window.specs.declared.leaf_set.Leaves.{Leaves}
 use Rattle.window.specs.Leaves.{leaf_limit, numbers, leaf_list, leaves_of}
 use Rattle.window.specs.LeafRule.{put, remove}
-use Rattle.window.specs.Growing.{Tidy, grown_of}
-use Rattle.window.proofs.Growing.{grown_some, grown_longer, list_of, tidy_of, tidy_count}
+use Rattle.window.specs.Growing.{Tidy}
+use Rattle.window.proofs.Growing.{list_of, count_of, tidy_of, tidy_count}
 
 -- ---- places as numbers
 
@@ -96,7 +88,48 @@ module _ {w out : Leaves} (v : ℕ) (t : Tidy out) (room : out.count < leaf_limi
   pub pushed_tidy : Tidy w
   pushed_tidy = tidy_of w _ e (omega (arith, tidy_count t, length-append (leaf_list out) (v ∷ [])))
 
--- ---- what is put in, at place k
+  pub pushed_count : w.count ≡ out.count + 1
+  pushed_count = omega (arith, count_of w _ e, tidy_count t, length-append (leaf_list out) (v ∷ []))
+
+-- the leaves before place k are set down, and what F makes of all of them is those and what it makes of the others
+pub record Rebuilt (F : List ℕ → List ℕ) (vs : List Var) (out : Leaves) (k : ℕ) : Type 0 where
+  pub tidy : Tidy out
+  pub count : out.count ≡ k
+  pub whole : F (numbers vs) ≡ leaf_list out ++ F (numbers (drop k vs))
+
+pub rebuilt_none : (F : List ℕ → List ℕ) (vs : List Var) (out : Leaves) → out ≡ leaves_of [] → Rebuilt F vs out 0
+rebuilt_none F vs out e = record {
+  tidy = tidy_of out [] e (omega arith);
+  count = count_of out [] e;
+  whole = ap (λ (xs : List ℕ). xs ++ F (numbers vs)) (sym (list_of out [] e));
+}
+
+-- one leaf more, which F passes by
+pub rebuilt_more : {F : List ℕ → List ℕ} {vs : List Var} {w out : Leaves} {k : ℕ} (v : Var) → Rebuilt F vs out k → out.count < leaf_limit
+    → w ≡ leaves_of (leaf_list out ++ (v.0 ∷ []))
+    → F (numbers (drop k vs)) ≡ v.0 ∷ F (numbers (drop (k + 1) vs))
+    → Rebuilt F vs w (k + 1)
+rebuilt_more {F} {vs} {w} {out} {k} v b room e p = record {
+  tidy = pushed_tidy v.0 b.tidy room e;
+  count = omega (arith, pushed_count v.0 b.tidy room e, b.count);
+  whole =
+      b.whole
+      ∙ ap (λ (xs : List ℕ). leaf_list out ++ xs) p
+      ∙ sym (append_assoc (leaf_list out) (v.0 ∷ []) (F (numbers (drop (k + 1) vs))))
+      ∙ ap (λ (xs : List ℕ). xs ++ F (numbers (drop (k + 1) vs))) (sym (pushed_list v.0 b.tidy room e));
+}
+
+-- a leaf stands at place k, so there is room for it
+pub rebuilt_room : {F : List ℕ → List ℕ} {vs : List Var} {out : Leaves} {k : ℕ} (w : Leaves) → length w.places ≡ 6 → numbers vs ≡ leaf_list w
+    → Rebuilt F vs out k → k < length vs → Tidy out × (out.count < leaf_limit)
+rebuilt_room {vs = vs} w six same b h = (b.tidy, omega (arith, b.count, leaves_few w vs same six))
+
+-- where F makes ys of the leaves from place k on
+pub rebuilt_whole : {F : List ℕ → List ℕ} {vs : List Var} {out : Leaves} {k : ℕ} (w : Leaves) → numbers vs ≡ leaf_list w → Rebuilt F vs out k
+    → (ys : List ℕ) → F (numbers (drop k vs)) ≡ ys → leaf_list out ++ ys ≡ F (leaf_list w)
+rebuilt_whole {F} {out = out} w same b ys p = sym (ap F (sym same) ∙ b.whole ∙ ap (λ (xs : List ℕ). leaf_list out ++ xs) p)
+
+-- ---- what is put in or removed, at the place of a walk where it comes
 
 module _ (v : ℕ) (vs : List Var) (k : ℕ) where
   abbrev rest : List ℕ
@@ -109,6 +142,10 @@ module _ (v : ℕ) (vs : List Var) (k : ℕ) where
   unfolding put
   put_end h = rw (rest_end vs k h)
 
+  pub remove_end : length vs ≤ k → remove v rest ≡ []
+  unfolding remove
+  remove_end h = rw (rest_end vs k h)
+
   module _ (h : k < length vs) where
     pub put_before : v < here.0 → put v rest ≡ v ∷ rest
     unfolding put
@@ -118,83 +155,16 @@ module _ (v : ℕ) (vs : List Var) (k : ℕ) where
     unfolding put
     put_already e = rw (rest_more vs k h, le-ltb v here.0 (omega arith), eq-eqb v here.0 e)
 
--- ---- what is put in or removed, at the first leaf where it comes
+    pub put_after : here.0 < v → put v rest ≡ here.0 ∷ put v (numbers (drop (k + 1) vs))
+    unfolding put
+    put_after l =
+        let n : ¬ (v ≡ here.0) = omega arith in
+        rw (rest_more vs k h, le-ltb v here.0 (omega arith), ne_eqb v here.0 n)
 
--- the place that a search came to, or the end
-pub first_place : (p : Var → Bool) (vs : List Var) (found : Option ℕ) (k : ℕ)
-    → found ≡ cond (ltb (position_or_len p vs) (length vs)) (Some (position_or_len p vs)) None
-    → k ≡ unwrap_or found (length vs) → k ≡ position_or_len p vs
-first_place p vs found k e u = ⊎_elim
-    (λ h. rw (u, e, le-ltb (position_or_len p vs) (length vs) h) (omega (arith, h, prefix_len-le-length (λ x. not (p x)) vs)))
-    (λ h. rw (u, e, lt-ltb (position_or_len p vs) (length vs) h) refl)
-    (at_most_or_above (length vs) (position_or_len p vs))
+    pub remove_here : v ≡ here.0 → remove v rest ≡ numbers (drop (k + 1) vs)
+    unfolding remove
+    remove_here e = rw (rest_more vs k h, eq-eqb v here.0 e)
 
--- where v is put in: before the first leaf that is not below it
-abbrev pub put_place : ℕ → List Var → ℕ
-put_place v vs = position_or_len (λ (x : Var). leb v x.0) vs
-
--- where v is removed: at the first leaf that it is
-abbrev pub remove_place : ℕ → List Var → ℕ
-remove_place v vs = position_or_len (λ (x : Var). eqb v x.0) vs
-
-module _ (v : ℕ) where
-  pub put_passes : (vs : List Var) → numbers (take (put_place v vs) vs) ++ put v (numbers (drop (put_place v vs) vs)) ≡ put v (numbers vs)
-  unfolding put numbers
-  put_passes [] = refl
-  put_passes (x ∷ xs) = ⊎_elim
-      (λ h. rw (le-leb v x.0 h) refl)
-      (λ h.
-      let n : ¬ (v ≡ x.0) = omega arith in
-      let l : x.0 ≤ v = omega arith in
-      rw (lt-leb v x.0 h, le-ltb v x.0 l, ne_eqb v x.0 n, one-add (put_place v xs)) (ap (λ (ys : List ℕ). x.0 ∷ ys) (put_passes xs)))
-      (at_most_or_above v x.0)
-
-  remove_passes : (vs : List Var) → numbers (take (remove_place v vs) vs) ++ numbers (drop (suc (remove_place v vs)) vs) ≡ remove v (numbers vs)
-  unfolding remove numbers
-  remove_passes [] = refl
-  remove_passes (x ∷ xs) = ⊎_elim
-      (λ h. rw (eq-eqb v x.0 h) refl)
-      (λ h. rw (ne_eqb v x.0 h, one-add (remove_place v xs)) (ap (λ (ys : List ℕ). x.0 ∷ ys) (remove_passes xs)))
-      (equal_or_not v x.0)
-
-  module _ (vs : List Var) (k : ℕ) (p : k ≡ remove_place v vs) (xs : List ℕ) (same : numbers vs ≡ xs) where
-    past : numbers (drop (min (k + 1) (length vs)) vs) ≡ numbers (drop (suc k) vs)
-    past = ⊎_elim
-        (λ h. let m : min (k + 1) (length vs) ≡ length vs = omega arith in rw m (rest_end vs (length vs) (omega arith) ∙ sym (rest_end vs (suc k) (omega arith))))
-        (λ h. let m : min (k + 1) (length vs) ≡ suc k = omega arith in rw m refl)
-        (at_most_or_above (length vs) k)
-
-    pub remove_split : numbers (take k vs) ++ numbers (drop (min (k + 1) (length vs)) vs) ≡ remove v xs
-    remove_split = rw (past, p, ← same) (remove_passes vs)
-
--- leaves that follow others in a set that has room
-pub followed : (w : Leaves) {r : Option Leaves} {xs : List ℕ} (ys : List ℕ) → leaf_list w ≡ xs → r ≡ grown_of (leaf_list w ++ ys) → r ≡ grown_of (xs ++ ys)
-followed w ys l e = e ∙ ap (λ (zs : List ℕ). grown_of (zs ++ ys)) l
-
-pub followed_some : {out : Leaves} (w : Leaves) {r : Option Leaves} {xs : List ℕ} (ys : List ℕ) → leaf_list w ≡ xs → r ≡ grown_of (leaf_list w ++ ys) → r ≡ Some out → Tidy out × (leaf_list out ≡ xs ++ ys)
-followed_some {out} w {xs = xs} ys l e s =
-    let (few, same) = grown_some (xs ++ ys) out (sym s ∙ followed w ys l e) in (tidy_of out _ same few, list_of out _ same)
-
-pub followed_not : (w : Leaves) {r : Option Leaves} {xs : List ℕ} (ys : List ℕ) → leaf_list w ≡ xs → r ≡ grown_of (leaf_list w ++ ys) → r ≡ None → (us : List ℕ) (zs : List ℕ) → (xs ++ ys) ++ us ≡ zs → None ≡ grown_of zs
-followed_not w {xs = xs} ys l e n us zs q =
-    grown_longer (xs ++ ys) zs (sym n ∙ followed w ys l e) (omega (arith, ap length q, length-append (xs ++ ys) us))
-
-module _ (v : ℕ) (vs : List Var) (k : ℕ) (p : k ≡ put_place v vs) (xs : List ℕ) (same : numbers vs ≡ xs) where
-  pub put_split : numbers (take k vs) ++ put v (numbers (drop k vs)) ≡ put v xs
-  put_split = rw (p, ← same) (put_passes v vs)
-
-  pub put_there : k < length vs → v ≡ (get_or vs k (record { 0 = 0 })).0 → numbers (take k vs) ++ numbers (drop k vs) ≡ put v xs
-  put_there h e = ap (λ (ys : List ℕ). numbers (take k vs) ++ ys) (sym (put_already v vs k h e)) ∙ put_split
-
-  pub put_new : (k < length vs → ¬ (v ≡ (get_or vs k (record { 0 = 0 })).0))
-      → (numbers (take k vs) ++ (v ∷ [])) ++ numbers (drop k vs) ≡ put v xs
-  put_new n = append_assoc (numbers (take k vs)) (v ∷ []) (numbers (drop k vs)) ∙ ap (λ (ys : List ℕ). numbers (take k vs) ++ ys) (sym first) ∙ put_split
-    where
-      first : put v (numbers (drop k vs)) ≡ v ∷ numbers (drop k vs)
-      first = ⊎_elim
-          (λ h. put_end v vs k h ∙ ap (λ (ys : List ℕ). v ∷ ys) (sym (rest_end vs k h)))
-          (λ h.
-          let l : v ≤ (get_or vs k (record { 0 = 0 })).0 = leb-true _ _ (rw p (passes_at_first (λ (x : Var). leb v x.0) vs (record { 0 = 0 }) (omega (arith, h, p)))) in
-          let m : ¬ (v ≡ (get_or vs k (record { 0 = 0 })).0) = n h in
-          put_before v vs k h (omega (arith, l, m)))
-          (at_most_or_above (length vs) k)
+    pub remove_after : ¬ (v ≡ here.0) → remove v rest ≡ here.0 ∷ remove v (numbers (drop (k + 1) vs))
+    unfolding remove
+    remove_after n = rw (rest_more vs k h, ne_eqb v here.0 n)

@@ -44,10 +44,10 @@ impl Leaves {
     }
 
     // The leaves ascend from 1 on, and each is below the root.
-    // One loop: as a chain it would be three tests, that the leaves ascend, that the first is above 0, and that the last is below the root.
     fn ascends(self, root: Var) -> bool
         ensures { result ≡ ascends_from 0 (leaf_list self) && all (λ v. ltb v root.0) (leaf_list self) }
     {
+        // One loop: as a chain it would be three tests, that the leaves ascend, that the first is above 0, and that the last is below the root.
         let mut before = Var(0);
         for &leaf in self.as_slice() {
             if leaf <= before || root <= leaf {
@@ -100,17 +100,23 @@ impl Leaves {
         Some(out)
     }
 
-    // v put in, in order and without repeats.
+    // v put in, in order and without repeats: one walk, as in `remove`. By `position` the leaf rule takes more than 0.8 of the second
+    // program's time.
     fn put(self, v: Var) -> Option<Leaves>
         ensures { result ≡ grown_of (put v.0 (leaf_list self)) }
     {
         let leaves = self.as_slice();
-        let at = leaves.iter().position(|&x| v <= x).unwrap_or(leaves.len());
-        let below = Leaves::none().follow(&leaves[..at])?;
-        if at < leaves.len() && v == leaves[at] {
-            return below.follow(&leaves[at..]);
+        let mut out = Leaves::none();
+        for (k, &x) in leaves.iter().enumerate() {
+            if v < x {
+                return out.push(v).follow(&leaves[k..]);
+            }
+            if v == x {
+                return out.follow(&leaves[k..]);
+            }
+            out = out.push(x);
         }
-        below.follow(&[v])?.follow(&leaves[at..])
+        out.follow(&[v])
     }
 
     // v put in, unless it is variable 0.
@@ -127,10 +133,14 @@ impl Leaves {
         ensures { result ≡ leaves_of (remove v.0 (leaf_list self)) }
     {
         let leaves = self.as_slice();
-        let at = leaves.iter().position(|&x| v == x).unwrap_or(leaves.len());
-        let before = Leaves::none().follow(&leaves[..at]).unwrap();
-        let after = (at + 1).min(leaves.len());
-        before.follow(&leaves[after..]).unwrap()
+        let mut out = Leaves::none();
+        for (k, &x) in leaves.iter().enumerate() {
+            if v == x {
+                return out.follow(&leaves[k + 1..]).unwrap();
+            }
+            out = out.push(x);
+        }
+        out
     }
 
     // The set with the fanin variables of v's gate, without 0. Over a lent graph, as `expand` is, since

@@ -17,7 +17,7 @@ mark_fanins-requires c = (
 pub loop-k-preserved : goal.loop-k-preserved
 loop-k-preserved c =
     let net = c.args.net.now in
-    let v : c.gate.result.0 ≡ free net + c.loop-k.k = omega (arith, c.gate.ensures.value) in
+    let v : c.inputs.result + (c.loop-k.k - 1) + 1 ≡ free net + c.loop-k.k = omega arith in
     let marked = rw v at c.mark_fanins.ensures in
     ap (mark_after net c.args.stop (c.loop-k.k - 1 - c.args.stop)) marked
     ∙ after_step net c.args.stop c.loop-k.k (marks_in c.loop-k.marks) (omega arith)
