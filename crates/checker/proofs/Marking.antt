@@ -2,7 +2,7 @@
 -- Assumes nothing.
 use mathlib.Core.Path.{◌≡◌, refl, sym, ap, ap₂, ◌∙◌}
 use mathlib.Core.Bool.{Bool, true, false, cond}
-use mathlib.Core.List.{List}
+use mathlib.Core.List.{List, map}
 use Prim.Native.Nat.{ℕ, zero, suc, ◌+◌, ◌-◌, ◌≤◌, ◌<◌}
 use native.Mathlib.Nat.{le_refl}
 use native.Mathlib.Numerals.{add-one}
@@ -11,6 +11,10 @@ use borrow.Author.Tests.{le-leb, lt-leb, lt-ltb, le-ltb}
 use mir.Val.{bool_byte}
 use lib.ListN.{length, get_or, set, drop, replicate, drop_of_length-le, length-replicate}
 use lib.Seq.{drop-cons}
+use Rattle.std.specs.List.{filter, range_with_len, sum_by}
+use Rattle.std.proofs.lemmas.List.{map-id}
+use Rattle.std.proofs.lemmas.List.FromFn.{sum_by-map-range_with_len_more}
+use Rattle.std.proofs.lemmas.List.Sums.{length-filter}
 use Rattle.graph.specs.Literal.{var_of, LiteralsBelow}
 use Rattle.graph.specs.Graph.{Net, Graph, free, size, last, sinks, first, second, most_inputs, most_gates, IsGate, Lawful}
 use Rattle.graph.specs.Use.{mark_each, mark_fanins, mark_down, marks_over, marks, in_use, count_marks, used_gates}
@@ -83,6 +87,26 @@ module _ (net : Net) (k : ℕ) where
 -- ---- counting
 
 module _ (net : Net) (ms : List Bool) where
+  abbrev mark : ℕ → ℕ
+  mark k = cond (get_or ms (free net + k + 1) false) 1 0
+
+  count_sum : (n : ℕ) → count_marks net ms n ≡ sum_by mark (map (λ (k : ℕ). k) (range_with_len 0 n))
+  unfolding count_marks
+  count_sum zero = refl
+  count_sum (suc n) =
+      let e : suc (free net + n) ≡ free net + n + 1 = omega arith in
+      ap (λ (j : ℕ). count_marks net ms n + cond (get_or ms j false) 1 0) e
+      ∙ ap (λ (m : ℕ). m + mark n) (count_sum n)
+      ∙ sym (sum_by-map-range_with_len_more mark (λ (k : ℕ). k) 0 n n (omega arith))
+      ∙ ap (λ (m : ℕ). sum_by mark (map (λ (k : ℕ). k) (range_with_len 0 m))) (add-one n)
+
+  -- a walk from 0 on counts the marked gates
+  pub count_by_std : (n : ℕ) → count_marks net ms n ≡ length (filter (λ k. get_or ms (free net + k + 1) false) (range_with_len 0 n))
+  count_by_std n =
+      count_sum n
+      ∙ ap (λ (ks : List ℕ). sum_by mark ks) (map-id (range_with_len 0 n))
+      ∙ sym (length-filter _ (range_with_len 0 n))
+
   -- the mark of one gate more, as a cast gives it
   pub count_more : (k : ℕ) → count_marks net ms k + bool_byte (get_or ms (free net + k + 1) false) ≡ count_marks net ms (k + 1)
   unfolding count_marks

@@ -26,8 +26,8 @@ fn gate_ok(graph: &LentGraph, k: usize) -> bool
     (first as usize) < 2 * (graph.inputs() + k + 1)
 }
 
-// A loop over the words themselves, as `count_marks` and `mark_after` are: by chains, `fanins_of` and `Net::gate` the leaf rule takes more
-// than 0.8 of the second program's time.
+// A loop over the words themselves, as `mark_after` is. By a chain, `fanins_of` and `Net::gate`, and with `position` in `Leaves::put`, the
+// leaf rule took 0.93 of the second program's time, where 0.8 is the most.
 fn gates_ok(graph: &LentGraph) -> bool
     requires { (free graph.now.net ≤ most_inputs) × (length graph.now.net.gates ≤ 2 * most_gates) }
     ensures { result ≡ all_below (λ k. gate_ok graph.now.net (suc (free graph.now.net + k))) (size graph.now.net) }

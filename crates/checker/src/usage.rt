@@ -73,12 +73,9 @@ fn count_marks(net: &Net, marks: &[bool]) -> usize
     requires { last net.now < length (marks_in marks.now) }
     ensures { result ≡ count_marks net.now (marks_in marks.now) (size net.now) }
 {
-    let mut found = 0;
-    for k in 0..net.size() {
-        let v = Var((net.inputs() + k + 1) as u32);
-        found += has_mark(marks, v) as usize;
-    }
-    found
+    (0..net.size())
+        .filter(|&k| has_mark(marks, Var((net.inputs() + k + 1) as u32)))
+        .count()
 }
 
 // R, the number of gates in use.

@@ -100,8 +100,8 @@ impl Leaves {
         Some(out)
     }
 
-    // v put in, in order and without repeats: one walk, as in `remove`. By `position` the leaf rule takes more than 0.8 of the second
-    // program's time.
+    // v put in, in order and without repeats: one walk, as in `remove`. By `position`, and with chains in `checker`, the leaf rule took 0.93
+    // of the second program's time, where 0.8 is the most.
     fn put(self, v: Var) -> Option<Leaves>
         ensures { result ≡ grown_of (put v.0 (leaf_list self)) }
     {
@@ -143,8 +143,8 @@ impl Leaves {
         out
     }
 
-    // The set with the fanin variables of v's gate, without 0. Over a lent graph, as `expand` is, since
-    // both ask less than a `Net` says; so `expanded_count` takes one too.
+    // The set with the fanin variables of v's gate, without 0. Over a lent graph, as `expand` is, since both ask less
+    // than a `Net` says; so `expanded_count` takes one too.
     pub fn with_fanins(self, graph: &LentGraph, v: Var) -> Option<Leaves>
         requires { (free graph.now.net ≤ most_inputs) × IsGate graph.now.net v.0 }
         ensures { result ≡ grown_of (with_fanins graph.now.net v.0 (leaf_list self)) }
