@@ -1,7 +1,7 @@
 pub mod Walk
 pub mod Tokens
 pub mod Lines
+pub mod LineWalk
 pub mod ReaderAnswers
 pub mod Thin
 pub mod Asked
-pub mod AnyByte

@@ -3,12 +3,12 @@
 use mathlib.Core.Path.{◌≡◌, refl, sym, ap, ◌∙◌}
 use mathlib.Core.List.{List, [], ◌∷◌, ◌++◌, append_assoc, append-nil}
 use mathlib.Core.Option.{Option, none, some}
-use Prim.Native.Nat.{ℕ, zero, suc, ◌+◌, ◌-◌, ◌<◌, ◌≤◌}
+use Prim.Native.Nat.{ℕ, zero, suc, ◌+◌, ◌<◌, ◌≤◌}
 use native.Mathlib.Omega.{arith}
-use lib.ListN.{length, get_or, set, take, drop, drop_of_length-le}
-use lib.Seq.{drop-cons}
-use Rattle.std.specs.Prelude.{Some}
-use Rattle.std.proofs.lemmas.List.{take_all, take_more_set}
+use native.Mathlib.Numerals.{add-one}
+use lib.ListN.{length, get_or, set, drop, length-append, length-drop, drop_of_length-le}
+use lib.Seq.{drop-cons, set-append_seam}
+use Rattle.std.specs.Prelude.{Some, None}
 use Rattle.scanner.specs.declared.number.NumberAt.{NumberAt}
 use Rattle.text.specs.Number.{Front, front, number}
 use Rattle.text.specs.Line.{◌>>=◌, space, line_feed, separator, after, line_of}
@@ -25,64 +25,72 @@ unfolding separator
 separator_last zero e = refl
 separator_last (suc n) e = absurd (omega arith)
 
--- ---- the first k of n numbers are read into ns, and the rest of the line stands at a place
+-- the numbers ns are read, and n more are to be read from place `next` on
+pub record Begun (whole : Option (Front (List ℕ))) (t ns : List ℕ) (n next : ℕ) : Type 0 where
+  pub line : whole ≡ (line_of n (drop next t) >>= λ xs. some (front (ns ++ xs.got) xs.rest))
 
-abbrev pub behind : List ℕ → Option (Front (List ℕ)) → Option (Front (List ℕ))
-behind ns o = (o >>= λ xs. some (front (ns ++ xs.got) xs.rest))
-
--- the reader still reads the text t
-pub record Begun (t : List ℕ) (at n : ℕ) (read : List ℕ) (pos k : ℕ) (ns : List ℕ) : Type 0 where
-  pub same_text : read ≡ t
-  pub line : line_of n (drop at t) ≡ behind (take k ns) (line_of (n - k) (drop pos read))
-
-pub begins : (t : List ℕ) (at n : ℕ) (ns : List ℕ) → Begun t at n t at 0 ns
-begins t at n ns = record {
-  same_text = refl;
-  line = let all : n - 0 ≡ n = omega arith in rw all (go (line_of n (drop at t)));
-}
+pub begins : (t : List ℕ) (n at m : ℕ) → m ≡ n → Begun (line_of n (drop at t)) t [] m at
+begins t n at m e = record { line = rw e (go (line_of n (drop at t))) }
   where
-    go : (o : Option (Front (List ℕ))) → o ≡ behind [] o
+    go : (o : Option (Front (List ℕ))) → o ≡ (o >>= λ xs. some (front xs.got xs.rest))
     go none = refl
     go (some x) = refl
 
-module _ {t : List ℕ} {at n : ℕ} {read : List ℕ} {pos k : ℕ} {ns : List ℕ} (b : Begun t at n read pos k ns) where
-  -- how many are needed after the next
-  abbrev pub later : ℕ
-  later = n - (k + 1)
-
-  module _ (less : k < n) where
-    more : n - k ≡ suc later
-    more = omega arith
-
-    pub no_number : none ≡ number (drop pos read) → none ≡ line_of n (drop at t)
+module _ {whole : Option (Front (List ℕ))} {t ns : List ℕ} {m next : ℕ} (b : Begun whole t ns m next) where
+  module _ (n : ℕ) (more : m ≡ suc n) where
+    pub no_number : none ≡ number (drop next t) → whole ≡ none
     unfolding line_of
-    no_number e = sym (b.line ∙ rw (more, sym e))
+    no_number e = b.line ∙ rw (more, sym e)
 
-    module _ (s : NumberAt) (is : number_step read (Some s) ≡ number (drop pos read)) where
-      pub no_separator : none ≡ after (separator later ∷ []) (drop s.next read) → none ≡ line_of n (drop at t)
+    module _ (s : NumberAt) (is : number_step t (Some s) ≡ number (drop next t)) where
+      pub no_separator : none ≡ after (separator n ∷ []) (drop s.next t) → whole ≡ none
       unfolding number_step line_of
-      no_separator e = sym (b.line ∙ rw (more, sym is, sym e))
+      no_separator e = b.line ∙ rw (more, sym is, sym e)
 
-      pub goes_on : (a : ℕ) → byte_step read (Some a) ≡ after (separator later ∷ []) (drop s.next read) → length ns ≡ n
-          → Begun t at n read a (k + 1) (set ns k s.value)
+      pub goes_on : (a : ℕ) → byte_step t (Some a) ≡ after (separator n ∷ []) (drop s.next t) → Begun whole t (ns ++ (s.value ∷ [])) n a
       unfolding number_step byte_step line_of
-      goes_on a e size = record {
-        same_text = b.same_text;
-        line =
-            b.line
-            ∙ rw (more, sym is, sym e, take_more_set ns k s.value (omega arith)) (go (line_of later (drop a read)));
-      }
+      goes_on a e = record { line = b.line ∙ rw (more, sym is, sym e) (go (line_of n (drop a t))) }
         where
           go : (o : Option (Front (List ℕ)))
-              → behind (take k ns) (o >>= λ xs. some (front (s.value ∷ xs.got) xs.rest)) ≡ behind (take k ns ++ s.value ∷ []) o
+              → (o >>= (λ xs. some (front (s.value ∷ xs.got) xs.rest)) >>= λ xs. some (front (ns ++ xs.got) xs.rest))
+              ≡ (o >>= λ xs. some (front ((ns ++ (s.value ∷ [])) ++ xs.got) xs.rest))
           go none = refl
-          go (some x) = ap (λ (ms : List ℕ). some (front ms x.rest)) (sym (append_assoc (take k ns) (s.value ∷ []) x.got))
+          go (some x) = ap (λ (ms : List ℕ). some (front ms x.rest)) (sym (append_assoc ns (s.value ∷ []) x.got))
 
-  pub all_read : n ≤ k → length ns ≡ n → line_step t ns (Some pos) ≡ line_of n (drop at t)
-  unfolding line_step line_of
-  all_read full size =
-      let none_left : n - k ≡ 0 = omega arith in
-      sym (b.line ∙ rw (none_left, take_all k ns (omega arith), append-nil ns, b.same_text))
+  all_read : m ≡ 0 → whole ≡ some (front ns (drop next t))
+  unfolding line_of
+  all_read e = b.line ∙ rw (e, append-nil ns)
+
+-- ---- the lent numbers, the first k of them read
+
+abbrev pub held : ℕ → List ℕ → List ℕ → List ℕ
+held k ns ys = ns ++ drop k ys
+
+module _ (t ns ys : List ℕ) (k : ℕ) {whole : Option (Front (List ℕ))} where
+  pub line_is_read : {m next : ℕ} → Begun whole t ns m next → m ≡ 0 → k ≡ length ys → line_step t (held k ns ys) (Some next) ≡ whole
+  unfolding line_step
+  line_is_read b z e =
+      let past : length ys ≤ k = omega arith in
+      rw (drop_of_length-le ys past, append-nil ns) (sym (all_read b z))
+
+  pub no_line_read : whole ≡ none → line_step t (held k ns ys) None ≡ whole
+  unfolding line_step
+  no_line_read e = sym e
+
+module _ (ys ns : List ℕ) (k : ℕ) (long : length ns ≡ k) where
+  pub next_held : (x : ℕ) → k < length ys → set (held k ns ys) k x ≡ held (k + 1) (ns ++ (x ∷ [])) ys
+  next_held x h =
+      ap (λ (r : List ℕ). set (ns ++ r) k x) (drop-cons ys k x h)
+      ∙ ap (λ (j : ℕ). set (ns ++ (get_or ys k x ∷ drop (suc k) ys)) j x) (sym long)
+      ∙ set-append_seam ns (get_or ys k x) (drop (suc k) ys) x
+      ∙ sym (append_assoc ns (x ∷ []) (drop (suc k) ys))
+      ∙ ap (λ (j : ℕ). (ns ++ (x ∷ [])) ++ drop j ys) (sym (add-one k))
+
+  pub length_held : k ≤ length ys → length (held k ns ys) ≡ length ys
+  length_held h = simp (length-append, length-drop) (omega arith)
+
+  pub length_more : (x : ℕ) → length (ns ++ (x ∷ [])) ≡ k + 1
+  length_more x = simp length-append (omega arith)
 
 -- ---- a line's numbers, each at its index
 

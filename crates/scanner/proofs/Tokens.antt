@@ -5,7 +5,7 @@ use mathlib.Core.Bool.{Bool, true, false, cond}
 use mathlib.Core.List.{List, [], ◌∷◌}
 use mathlib.Core.Logic.{◌⊎◌, inl, inr, ⊎_elim}
 use mathlib.Core.Option.{Option, none, some}
-use Rattle.std.specs.Prelude.{Some, None}
+use Rattle.std.specs.Prelude.{Option as Found, Some, None}
 use Prim.Native.Nat.{ℕ, ◌+◌, ◌-◌, ◌*◌, ◌≤◌, ◌<◌}
 use native.Mathlib.Nat.{le_refl}
 use native.Mathlib.Omega.{arith}
@@ -14,8 +14,9 @@ use lib.Dec.{leb, ltb}
 use lib.ListN.{length, drop, length-drop}
 use lib.Seq.{drop-drop}
 use Rattle.graph.proofs.Lists.{true_or_false}
+use Rattle.scanner.specs.declared.number.NumberAt.{NumberAt}
 use Rattle.text.specs.Number.{digit, is_digit, Front, front, digit_run, value_from, no_leading_zero, most_number, is_number, number}
-use Rattle.scanner.specs.Tokens.{digit_at, run_value}
+use Rattle.scanner.specs.Tokens.{digit_at, number_step, run_value}
 use Rattle.text.proofs.Number.{digit_least, digit_most}
 
 -- the digits at the front of a text, and the text that follows them
@@ -148,22 +149,35 @@ number_is : (t : List ℕ) {bs u : List ℕ} → digit_run t ≡ front bs u → 
 unfolding number
 number_is t e = rw (e, number)
 
+-- what is answered at a zero, by the digit behind it
+abbrev alone : Found ℕ → ℕ → Found NumberAt
+alone None next = Some (record { value = 0; next = next })
+alone (Some d) next = None
+
+-- the digit behind the zero says whether a number stands there
+pub zero_stands : (t : List ℕ) (at : ℕ) (d : Found ℕ) → Some 0 ≡ digit_at (drop at t) → d ≡ digit_at (drop (at + 1) t)
+    → number_step t (alone d (at + 1)) ≡ number (drop at t)
+unfolding number_step is_number no_leading_zero value_from
+zero_stands t at None z e =
+    let u = drop (at + 1) t in
+    let r : digit_run (drop 1 (drop at t)) ≡ front [] u = rw (drop-drop 1 at t) (over u e).runs in
+    sym (rw (number_is (drop at t) ((taken (drop at t) 0 z).runs r)))
+zero_stands t at (Some d) z e =
+    let u = drop (at + 1) t in
+    let r : digit_run (drop 1 (drop at t)) ≡ front (digit d ∷ run (drop 1 u)) (rest (drop 1 u)) =
+    rw (drop-drop 1 at t) ((taken u d e).runs refl) in
+    sym (rw (number_is (drop at t) ((taken (drop at t) 0 z).runs r)))
+
+-- the same, with each answer in sight
 pub zero_alone : (t : List ℕ) (at d : ℕ) → Some d ≡ digit_at (drop at t) → d ≡ 0 → None ≡ digit_at (drop (at + 1) t)
     → some (front 0 (drop (at + 1) t)) ≡ number (drop at t)
-unfolding is_number no_leading_zero value_from
-zero_alone t at d h z n =
-    let u = drop (at + 1) t in
-    let r : digit_run (drop 1 (drop at t)) ≡ front [] u = rw (drop-drop 1 at t) (over u n).runs in
-    sym (rw (number_is (drop at t) ((taken (drop at t) d h).runs r), z))
+unfolding number_step
+zero_alone t at d h z n = zero_stands t at None (rw z at h) n
 
 pub zero_leads : (t : List ℕ) (at d c : ℕ) → Some d ≡ digit_at (drop at t) → d ≡ 0 → Some c ≡ digit_at (drop (at + 1) t)
     → none ≡ number (drop at t)
-unfolding is_number no_leading_zero value_from
-zero_leads t at d c h z n =
-    let u = drop (at + 1) t in
-    let r : digit_run (drop 1 (drop at t)) ≡ front (digit c ∷ run (drop 1 u)) (rest (drop 1 u)) =
-    rw (drop-drop 1 at t) ((taken u c n).runs refl) in
-    sym (rw (number_is (drop at t) ((taken (drop at t) d h).runs r), z))
+unfolding number_step
+zero_leads t at d c h z n = zero_stands t at (Some c) (rw z at h) n
 
 leads : (b : ℕ) (bs : List ℕ) → ¬ (b ≡ digit 0) → no_leading_zero (b ∷ bs) ≡ true
 unfolding no_leading_zero

@@ -19,8 +19,11 @@ pub fn line_of(text: &[u8], at: usize, numbers: &mut [u32]) -> Option<usize>
         let number = reader.number()?;
         numbers[k] = number.value;
         reader.at = number.next;
-        let separator = if k + 1 < numbers.len() { b' ' } else { b'\n' };
-        reader.at = reader.byte(separator)?;
+        reader.at = if k + 1 < numbers.len() {
+            reader.space()?
+        } else {
+            reader.line_end()?
+        };
     }
     Some(reader.at)
 }

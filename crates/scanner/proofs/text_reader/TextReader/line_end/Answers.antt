@@ -1,0 +1,17 @@
+-- `scanner::text_reader::TextReader::line_end` needs no answer. Its code is thin over `line_end_at`,
+-- so what `Thin.antt` shows is of it too.
+-- Assumes nothing.
+use mathlib.Core.Path.{refl}
+use Rattle.text.specs.Line.{line_feed}
+use Rattle.scanner.proofs.ReaderAnswers.{the_byte}
+use Rattle.scanner.proofs.Thin.{thin_meets}
+use Rattle.scanner.proofs.bytes.line_end_at.Symbol as callee
+use Rattle.scanner.proofs.bytes.line_end_at.Met as proved
+use Rattle.scanner.specs.contracts.text_reader.TextReader.line_end.Key as here
+use Rattle.scanner.proofs.text_reader.TextReader.line_end.Statement.{statement}
+use Rattle.scanner.proofs.text_reader.TextReader.line_end.Code as code
+
+pub line_end_thin : {M : Type 1} → statement M
+line_end_thin 𝓤 𝓛 𝓜 𝓡 wired =
+    thin_meets (the_byte line_feed) 𝓛 𝓜 𝓡 𝓡.env here.name callee.name (𝓡.env callee.name)
+    (code.unfolded 𝓤 𝓛.H 𝓜 𝓡 wired) refl (proved.met 𝓤 𝓛 𝓜 𝓡 (code.calls-scanner::bytes::line_end_at 𝓡.env wired))
