@@ -20,9 +20,11 @@ use Rattle.graph.proofs.Lists.{at_most_or_above}
 use Rattle.graph.proofs.Members.{at_place, in_same}
 use Rattle.window.specs.declared.leaf_set.Leaves.{Leaves}
 use Rattle.window.specs.Leaves.{leaf_limit, numbers, leaf_list, leaf_place, WellSet}
+use Rattle.window.specs.Local.{covered_own, leaf_own}
+use Rattle.window.specs.Table.{leaf_pattern}
 use Rattle.window.proofs.LeafPlaces.{leaf_found, leaf_missed}
 use Rattle.cutter.specs.declared.next_leaf.NextLeaf.{NextLeaf}
-use Rattle.cutter.specs.Sweeping.{Passed, Ahead, next_is, window_own, own_ahead}
+use Rattle.cutter.specs.Sweeping.{Passed, Ahead, next_is, window_own, own_ahead, covered_ahead, table_ahead}
 
 leaves_few : (w : Leaves) → length (leaf_list w) ≤ w.count
 leaves_few w = omega (arith, length-take w.count (numbers w.places))
@@ -159,3 +161,16 @@ module _ {w : Leaves} {v : ℕ} {next : NextLeaf} (a : Ahead w v next) where
           → cond b (some (at_leaf next.place)) (cond (leb v (free net)) (some at_input) none) ≡ window_own at_leaf at_input net w v
       go true e = rw (e, window_own)
       go false e = rw (e, window_own)
+
+  pub covered_ahead_lem : (net : Net) → covered_ahead net next v ≡ covered_own net w v
+  unfolding covered_own window_own
+  covered_ahead_lem = ahead_is (λ place. true) false
+
+  pub table_ahead_lem : table_ahead next v ≡ leaf_own w leaf_pattern v
+  unfolding table_ahead leaf_own
+  table_ahead_lem = go (next_is next v) place_is
+    where
+      go : (b : Bool) → leaf_place w v ≡ cond b (some next.place) none
+          → cond b (some (leaf_pattern next.place)) none ≡ leaf_own w leaf_pattern v
+      go true e = rw (e, leaf_own)
+      go false e = rw (e, leaf_own)

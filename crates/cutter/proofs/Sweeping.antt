@@ -28,8 +28,8 @@ use Rattle.window.specs.Local.{coverage, covered_own, covered_up_to, covered, co
 use Rattle.window.specs.Table.{words, leaf_pattern, words_up_to, table}
 use Rattle.window.proofs.TableLaws.{words_are_tables}
 use Rattle.cutter.specs.declared.next_leaf.NextLeaf.{NextLeaf}
-use Rattle.cutter.specs.Sweeping.{Ahead, Sweeping, next_is, window_own, own_ahead, swept_up_to, covered_in}
-use Rattle.cutter.proofs.Passed.{ahead_none, place_below_limit, ahead_is}
+use Rattle.cutter.specs.Sweeping.{Ahead, Sweeping, next_is, window_own, own_ahead, table_ahead, swept_up_to, covered_in}
+use Rattle.cutter.proofs.Passed.{ahead_none, place_below_limit}
 
 -- ---- what a variable has, by the next leaf
 
@@ -50,24 +50,25 @@ module _ {A : Type 0} (at_leaf : ℕ → A) (at_input : A) (net : Net) (next : N
 -- ---- the lent list so far
 
 -- a sweep of a lent list up to the root that has come to variable n, and the next leaf
-pub record Sweep {A : Type 0} (K : Algebra A) (at_leaf : ℕ → A) (at_input : A) (net : Net) (w : Leaves) (root : ℕ) (lent list : List A)
+pub record Sweep {A : Type 0} (K : Algebra A) (own : ℕ → Option A) (net : Net) (w : Leaves) (root : ℕ) (lent list : List A)
     (next : NextLeaf) (n : ℕ) : Type 0 where
+  pub net_ok : WellFormedNet net
   pub known : root ≤ last net
   pub room : root < length lent
   pub within : n ≤ root
   pub ahead : Ahead w (suc n) next
-  pub swept : list ≡ written (swept_up_to K at_leaf at_input net w n) lent
+  pub swept : list ≡ Swept K own net lent n
 
-module _ {A : Type 0} {K : Algebra A} {at_leaf : ℕ → A} {at_input : A} {net : Net} {w : Leaves} {root : ℕ} where
+module _ {A : Type 0} {K : Algebra A} {own : ℕ → Option A} {net : Net} {w : Leaves} {root : ℕ} where
   module _ (lent : List A) (x : A) where
-    pub sweep_none : x ≡ K.no → (root ≤ last net) × (root < length lent) → WellSet root w
+    pub sweep_none : x ≡ K.no → WellFormedNet net × (root ≤ last net) → WellSet root w × (root < length lent)
         → {next : NextLeaf}
         → next.place ≡ 0
         → option_map (λ (u : Var). u.0) next.leaf ≡ slice_get (leaf_list w) 0
-        → Sweep K at_leaf at_input net w root (set lent 0 x) (set lent 0 x) next 0
-    sweep_none e (known, room) well p q =
-        let own = window_own at_leaf at_input net w in
+        → Sweep K own net w root (set lent 0 x) (set lent 0 x) next 0
+    sweep_none e (ok, known) (well, room) p q =
         record {
+          net_ok = ok;
           known = known;
           room = simp length-set (omega arith);
           within = omega arith;
@@ -76,42 +77,41 @@ module _ {A : Type 0} {K : Algebra A} {at_leaf : ℕ → A} {at_input : A} {net 
               ∙ sym (written_over (values K own net 0) lent x (omega (arith, values_length K own net 0)));
         }
 
-    pub sweep_all : {list : List A} {next : NextLeaf} {n : ℕ} → Sweep K at_leaf at_input net w root (set lent 0 x) list next n → root ≤ n
-        → list ≡ written (swept_up_to K at_leaf at_input net w root) lent
+    pub sweep_all : {list : List A} {next : NextLeaf} {n : ℕ} → Sweep K own net w root (set lent 0 x) list next n → root ≤ n
+        → list ≡ written (values K own net root) lent
     sweep_all {n} s h =
-        let own = window_own at_leaf at_input net w in
         let q : n ≡ root = omega arith in
         s.swept
         ∙ written_over (values K own net n) lent x (omega (arith, values_length K own net n))
         ∙ ap (Swept K own net lent) q
 
-  module _ {lent list : List A} {next : NextLeaf} {n : ℕ} (s : Sweep K at_leaf at_input net w root lent list next n) where
+  module _ {lent list : List A} {next : NextLeaf} {n : ℕ} (s : Sweep K own net w root lent list next n) where
     pub sweep_length : length list ≡ length lent
-    sweep_length = ap length s.swept ∙ swept_length K (window_own at_leaf at_input net w) net lent n (omega arith)
+    sweep_length = ap length s.swept ∙ swept_length K own net lent n (omega arith)
 
-    pub sweep_ahead : Ahead w (n + 1) next
-    sweep_ahead = rw (add-one n) s.ahead
+    pub sweep_ahead : Ahead w (n + 1) next × (0 < n + 1)
+    sweep_ahead = (rw (add-one n) s.ahead, omega arith)
 
     module _ (h : n < root) where
       pub sweep_next : Sweeping net next (n + 1)
-      sweep_next = record { within = omega arith; place_ok = place_below_limit sweep_ahead }
+      sweep_next = record { net_ok = s.net_ok; within = omega arith; place_ok = place_below_limit sweep_ahead.0 }
 
-      -- what the next variable has is set down at its place
-      pub sweep_more : WellFormedNet net → (x : A) {at : ℕ} {after : NextLeaf}
-          → x ≡ Option.get_or (own_ahead at_leaf at_input net next (n + 1)) (by_gate K net (n + 1) list)
+      -- what the next variable has is set down at its place; o is what it has itself, by the next leaf
+      pub sweep_more : (x : A) {o : Option A} {at : ℕ} {after : NextLeaf} → x ≡ Option.get_or o (by_gate K net (n + 1) list)
+          → o ≡ own (n + 1)
           → at ≡ n + 1
           → Ahead w (suc (n + 1)) after
-          → Sweep K at_leaf at_input net w root lent (set list at x) after (n + 1)
-      sweep_more ok x {at} e q a =
-          let own = window_own at_leaf at_input net w in
+          → Sweep K own net w root lent (set list at x) after (n + 1)
+      sweep_more x {at} e o_is q a =
           let is : x ≡ Option.get_or (own (suc n)) (by_gate K net (suc n) (Swept K own net lent n)) =
-          rw (ahead_is sweep_ahead at_leaf at_input net, add-one n, s.swept) at e in
+          rw (o_is, add-one n, s.swept) at e in
           record {
+            net_ok = s.net_ok;
             known = s.known;
             room = s.room;
             within = omega arith;
             ahead = a;
-            swept = rw (q, add-one n, s.swept) (swept_more K own net lent ok n x (omega arith) (omega arith) is);
+            swept = rw (q, add-one n, s.swept) (swept_more K own net lent s.net_ok n x (omega arith) (omega arith) is);
           }
 
 -- ---- what the sweeps leave
@@ -134,6 +134,20 @@ module _ (net : Net) (w : Leaves) where
       go (some j) e b f = rw (window_own, leaf_own, e)
       go none e true f = rw (window_own, leaf_own, e, f) (sym (by_gate_free words net v ws (leb-true v (free net) f)))
       go none e false f = rw (window_own, leaf_own, e, f)
+
+  -- the same by the next leaf
+  pub word_ahead : (next : NextLeaf) (v : ℕ) (ws : List ℕ)
+      → Option.get_or (own_ahead leaf_pattern words.no net next v) (by_gate words net v ws)
+      ≡ Option.get_or (table_ahead next v) (by_gate words net v ws)
+  unfolding own_ahead table_ahead
+  word_ahead next v ws = go (next_is next v) refl (leb v (free net)) refl
+    where
+      go : (a : Bool) → next_is next v ≡ a → (b : Bool) → leb v (free net) ≡ b
+          → Option.get_or (own_ahead leaf_pattern words.no net next v) (by_gate words net v ws)
+          ≡ Option.get_or (table_ahead next v) (by_gate words net v ws)
+      go true e b f = rw (own_ahead, table_ahead, e)
+      go false e true f = rw (own_ahead, table_ahead, e, f) (sym (by_gate_free words net v ws (leb-true v (free net) f)))
+      go false e false f = rw (own_ahead, table_ahead, e, f)
 
   pub words_swept : (n : ℕ) → swept_up_to words leaf_pattern words.no net w n ≡ words_up_to net w n
   unfolding words_up_to values

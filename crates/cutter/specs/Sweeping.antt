@@ -5,10 +5,11 @@ use Rattle.std.specs.Option.{option_map}
 use Rattle.std.proofs.Math.Option.{Option, none, some}
 use Rattle.graph.specs.declared.lit.Var.{Var}
 use Rattle.graph.specs.Lists.{gather, keep}
-use Rattle.graph.specs.Graph.{Net, free, last}
+use Rattle.graph.specs.Graph.{Net, free, last, WellFormedNet}
 use Rattle.graph.specs.Sweep.{Algebra, values}
 use Rattle.window.specs.declared.leaf_set.Leaves.{Leaves}
 use Rattle.window.specs.Leaves.{leaf_limit, leaf_list, leaf_place}
+use Rattle.window.specs.Table.{leaf_pattern}
 use Rattle.cutter.specs.declared.next_leaf.NextLeaf.{NextLeaf}
 
 -- of leaves that ascend, j stand below v, and the others do not
@@ -30,6 +31,7 @@ next_is next v = elim next.leaf [ None ↦ false | Some leaf ↦ eqb leaf.0 v ]
 
 -- v is a variable of the net, and where it is the next leaf, that has one of the six places
 pub record Sweeping (net : Net) (next : NextLeaf) (v : ℕ) : Type 0 where
+  pub net_ok : WellFormedNet net
   pub within : v ≤ last net
   pub place_ok : next_is next v ≡ true → next.place < leaf_limit
 
@@ -46,6 +48,15 @@ swept_up_to K at_leaf at_input net w n = values K (window_own at_leaf at_input n
 unfoldable pub own_ahead : {A : Type 0} → (ℕ → A) → A → Net → NextLeaf → ℕ → Option A
 unfolding next_is
 own_ahead at_leaf at_input net next v = cond (next_is next v) (some (at_leaf next.place)) (cond (leb v (free net)) (some at_input) none)
+
+-- so of coverage: a leaf is covered, and an input that is none is not
+abbrev pub covered_ahead : Net → NextLeaf → ℕ → Option Bool
+covered_ahead = own_ahead (λ place. true) false
+
+-- and of tables a leaf has the pattern of its place
+unfoldable pub table_ahead : NextLeaf → ℕ → Option ℕ
+unfolding next_is leaf_pattern
+table_ahead next v = cond (next_is next v) (some (leaf_pattern next.place)) none
 
 -- the covered variables below n, ascending, by a list that says of each whether it is
 unfoldable pub covered_in : List Bool → ℕ → List ℕ

@@ -6,7 +6,7 @@ ghost use Rattle.graph.specs.Sweep.{lit_value};
 ghost use Rattle.window.specs.Table.{words, words_up_to, table};
 
 use crate::sweep::{Swept, sweep};
-use graph::{Algebra, Lit, MOST_VARIABLES, Var, literal_value};
+use graph::{Algebra, Lit, MOST_VARIABLES, Var, literal_value, value_at};
 use window::{LeafWindow, Table};
 
 // Tables as words: a leaf has its pattern, and an input that is none has all bits 0. Words, since contracts speak of lists of numbers
@@ -54,7 +54,7 @@ pub fn table_at(tables: &[u64], v: Var) -> Table
     requires { v.0 < length tables.now }
     ensures { result.0 ≡ get_or tables.now v.0 0 }
 {
-    Table(tables[v.at()])
+    Table(value_at::<Words>(tables, v))
 }
 
 // The table of a literal.

@@ -1,5 +1,5 @@
 // What a sweep computes of each variable: the values of gates over any algebra.
-ghost use Rattle.std.specs.Prelude.{◌≡◌, ◌<◌, ◌≤◌, length};
+ghost use Rattle.std.specs.Prelude.{◌≡◌, ◌<◌, ◌≤◌, length, get_or};
 ghost use Rattle.graph.specs.Literal.{var_of};
 ghost use Rattle.graph.specs.Graph.{IsGate};
 ghost use Rattle.graph.specs.Sweep.{lit_value, by_gate};
@@ -25,12 +25,20 @@ pub trait Algebra {
         ensures { result ≡ ops.neg a };
 }
 
-// The value of a literal, where `values` has those of the variables from 0 on.
+// The value of a variable, where `values` has those of the variables from 0 on.
+pub fn value_at<A: Algebra>(values: &[A::Value], v: Var) -> A::Value
+    requires { v.0 < length values.now }
+    ensures { result ≡ get_or values.now v.0 A.ops.no }
+{
+    values[v.at()]
+}
+
+// The value of a literal.
 pub fn literal_value<A: Algebra>(values: &[A::Value], l: Lit) -> A::Value
     requires { var_of l.0 < length values.now }
     ensures { result ≡ lit_value A.ops values.now l.0 }
 {
-    let value = values[l.var().at()];
+    let value = value_at::<A>(values, l.var());
     if l.is_complement() {
         A::complement(value)
     } else {

@@ -10,7 +10,7 @@ mod lit;
 mod net;
 mod refusal;
 
-pub use algebra::{Algebra, gate_value, literal_value};
+pub use algebra::{Algebra, gate_value, literal_value, value_at};
 pub use checked::CheckedGraph;
 pub use gate::Fanins;
 pub use lent_graph::LentGraph;
