@@ -3,14 +3,17 @@ ghost use Rattle.std.specs.Prelude.{◌≡◌, ◌+◌, ◌≤◌, length};
 ghost use Rattle.text.specs.Number.{decimal};
 ghost use Rattle.graph.specs.Lent.{laid};
 
-// How many digits a number has.
+// How many digits a number has. Those of a graph's own numbers are told by comparisons, which cost less than a logarithm.
 pub(crate) fn decimal_length(number: u32) -> usize
     ensures { result ≡ length (decimal number) }
 {
-    if number == 0 {
-        return 1;
+    match number {
+        0..=9 => 1,
+        10..=99 => 2,
+        100..=999 => 3,
+        1_000..=9_999 => 4,
+        _ => number.ilog10() as usize + 1,
     }
-    number.ilog10() as usize + 1
 }
 
 // Writes a number from a place on, the last digit first, and answers the place after it.
