@@ -55,7 +55,6 @@ pub fn sweep(net: &Net, assignment: &[u32], known: &mut [bool])
 {
     put_inputs(assignment, known);
     for n in net.inputs()..net.last() {
-        let v = Var(n as u32 + 1);
-        known[v.at()] = gate_value::<Bools>(net, known, v);
+        known[n + 1] = gate_value::<Bools>(net, known, Var(n as u32 + 1));
     }
 }

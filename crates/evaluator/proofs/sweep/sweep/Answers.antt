@@ -28,9 +28,8 @@ swept_next net a lent known n x ok g h room e f =
     rw (add-one n, e) (swept_more bools (assigned net a) net lent ok n x h (omega arith) top)
 
 pub loop-n-preserved : goal.loop-n-preserved
-loop-n-preserved c = λ lent same e. rw c.at.ensures
-    (swept_next _ _ lent c.loop-n.known c.loop-n.n c.gate_value.result c.last-n-end.ensures.well_formed (omega arith)
-    (omega arith) (omega arith) (c.loop-n.invariant lent same e) c.gate_value.ensures)
+loop-n-preserved c = λ lent same e. swept_next _ _ lent c.loop-n.known c.loop-n.n c.gate_value.result c.last-n-end.ensures.well_formed
+    (omega arith) (omega arith) (omega arith) (c.loop-n.invariant lent same e) c.gate_value.ensures
 
 pub returns : goal.returns
 unfolding values_under
