@@ -29,7 +29,7 @@ use Rattle.window.specs.Table.{words, leaf_pattern, words_up_to, table}
 use Rattle.window.proofs.TableLaws.{words_are_tables}
 use Rattle.cutter.specs.declared.next_leaf.NextLeaf.{NextLeaf}
 use Rattle.cutter.specs.Sweeping.{Ahead, Sweeping, next_is, window_own, own_ahead, table_ahead, swept_up_to, covered_in}
-use Rattle.cutter.proofs.Passed.{ahead_none, place_below_limit}
+use Rattle.cutter.proofs.Passed.{ahead_none, place_below_limit, ahead_is, table_ahead_lem}
 
 -- ---- what a variable has, by the next leaf
 
@@ -135,19 +135,13 @@ module _ (net : Net) (w : Leaves) where
       go none e true f = rw (window_own, leaf_own, e, f) (sym (by_gate_free words net v ws (leb-true v (free net) f)))
       go none e false f = rw (window_own, leaf_own, e, f)
 
-  -- the same by the next leaf
-  pub word_ahead : (next : NextLeaf) (v : ℕ) (ws : List ℕ)
+  -- so what a sweep gives a variable by the next leaf is what tables have
+  pub word_ahead : {v : ℕ} {next : NextLeaf} → Ahead w v next → (ws : List ℕ)
       → Option.get_or (own_ahead leaf_pattern words.no net next v) (by_gate words net v ws)
       ≡ Option.get_or (table_ahead next v) (by_gate words net v ws)
-  unfolding own_ahead table_ahead
-  word_ahead next v ws = go (next_is next v) refl (leb v (free net)) refl
-    where
-      go : (a : Bool) → next_is next v ≡ a → (b : Bool) → leb v (free net) ≡ b
-          → Option.get_or (own_ahead leaf_pattern words.no net next v) (by_gate words net v ws)
-          ≡ Option.get_or (table_ahead next v) (by_gate words net v ws)
-      go true e b f = rw (own_ahead, table_ahead, e)
-      go false e true f = rw (own_ahead, table_ahead, e, f) (sym (by_gate_free words net v ws (leb-true v (free net) f)))
-      go false e false f = rw (own_ahead, table_ahead, e, f)
+  word_ahead {v} a ws =
+      let given = λ (o : Option ℕ). Option.get_or o (by_gate words net v ws) in
+      ap given (ahead_is a leaf_pattern words.no net) ∙ word_own v ws ∙ ap given (sym (table_ahead_lem a))
 
   pub words_swept : (n : ℕ) → swept_up_to words leaf_pattern words.no net w n ≡ words_up_to net w n
   unfolding words_up_to values
